@@ -21,7 +21,7 @@ TOLD = {
     "assert": re.compile(rf"\S+:\d+: (broken|{ONLY.strip()}): "),
     "reach": re.compile(rf'(from \S+: )?({ONLY})?("[^"]*"|unconfined|[0-9A-F]+)( \S+[:=]|$)'),
 }
-WORD = re.compile(r"(owned:)?(\w+)([:=].*)")
+WORD = re.compile(r"(owned:|other:)?(\w+)([:=].*)")
 
 
 def shown(name):
@@ -60,7 +60,7 @@ def see_lines(call, wanted):
         return
     if {"--html", "--format"} & {*call.args}:
         text = html.unescape(call.stored)
-        words = [word for line in wanted for word in re.findall(r" ((?:owned:)?\w+[:=]\S+)", line)]
+        words = [word for line in wanted for word in re.findall(r" ((?:owned:|other:)?\w+[:=]\S+)", line)]
         assert all(word in text for word in words), f"of {words} it hasn't all"
         return
     heading, found = "", []
@@ -105,10 +105,10 @@ def is_answered(told, answer):
 
 def words_of(line):
     """The words for `ask` of what a line of `diff` tells of: each letter, and both owners where both are answered alike."""
-    owned, kind, rest = WORD.fullmatch(line["request"]).groups()
+    whose, kind, rest = WORD.fullmatch(line["request"]).groups()
     if kind in ("cap", "net", "change"):
         return [line["request"]]
-    fronts = ["owned:"] if owned else [""] if line["of_others"] else ["owned:", ""]
+    fronts = [whose] if whose else ["owned:", "other:"]
     return [f"{front}{letter}{rest}" for front in fronts for letter in ([kind] if kind in ("x", "l") else kind)]
 
 
@@ -178,7 +178,7 @@ def compare_diff(call):
     for front, line in [("", it) for it in said["lines"]] + [(ONLY, it) for it in said.get("unclean", [])]:
         heading = "unconfined" if line["profile"] is None else f"profile {shown(line['profile'])}"
         more = f", and {line['more']} more" if line["more"] else ""
-        wanted.append(f"{heading}\n  {line['sign']} {front}{line['request']}{' of others' * line['of_others']} {line['change']}{more}")
+        wanted.append(f"{heading}\n  {line['sign']} {front}{line['request']} {line['change']}{more}")
         at.setdefault(line["profile"], []).append(line)
     see_lines(call, wanted)
     return len(wanted) + sum(see_differences(call, sides, label, lines) for label, lines in at.items())

@@ -8,6 +8,7 @@ pub mod Looking
 pub mod Passing
 mod Apart
 mod Enforcing
+mod Clearing
 mod There
 mod Naming
 mod Beginning
@@ -16,3 +17,4 @@ mod Clear
 mod Telling
 mod Quiet
 mod Sound
+mod Unbreaking

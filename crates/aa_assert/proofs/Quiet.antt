@@ -1,9 +1,12 @@
 -- Answers by which nobody breaks a claim, at unclean paths neither.
 use Rattle.std.proofs.Common.{◌≡◌, ℕ, List, [], ◌∷◌, ◌++◌, Bool, true, false, Option, Some, None, refl, sym, ap, subst, ◌∙◌}
-use Rattle.std.specs.Prelude.{not, ◌&&◌, flat_map, codes, MatchBool, if◌then◌else◌}
+use Rattle.std.specs.Prelude.{not, ◌&&◌, ◌||◌, flat_map, codes, MatchBool, if◌then◌else◌}
 use Rattle.aa_model.specs.declared.label.Label.{Label}
 use Rattle.aa_compile.specs.Labels.{first_profiles}
+use Rattle.aa_model.specs.declared.request.Request.TheVariants.{File, Link, Exec as Execute, Cap, Net, Change, Reload}
 use Rattle.aa_quantifiers.specs.declared.word.Word.{Word}
+use Rattle.aa_quantifiers.specs.declared.word.Word.TheVariants.{Files, Execs, One}
+use Rattle.aa_claims.specs.declared.fault.Wrong.TheVariants.{Granted}
 use Rattle.aa_assert.specs.declared.asked.Asked.{Asked}
 use Rattle.aa_assert.specs.declared.asked.Asked.TheVariants.{Never, Leads, Always, Reaches, Enforced}
 use Rattle.aa_assert.specs.declared.passage.Passage.{Passage}
@@ -15,7 +18,8 @@ use Rattle.aa_who.specs.Untold.{Untold}
 use Rattle.aa_claims.specs.declared.words.ClaimWord.{ClaimWord}
 use Rattle.aa_claims.specs.Forms.{is_word, keyword_of, names_behind, names_within, names_led}
 use Rattle.aa_assert.specs.Asked.{IsNeverAskedBy, IsNeverAsked, IsAlwaysAsked, IsAskedFor, IsAskedBy}
-use Rattle.aa_assert.specs.Scope.{AreSomebody}
+use Rattle.aa_assert.specs.Scope.{is_about_profile, AreSomebody}
+use Rattle.aa_assert.specs.Breaking.{is_refused_free, never_wrong, leads_wrong, unbreakable}
 use Rattle.aa_assert.specs.Findings.{Found, AllFound, broken_by, counts, broken_if, judged_found, by_way, by_unclean_way, passed_by, way_counts, passed_if}
 use Rattle.aa_assert.specs.Findings.{untold_past, untold_of, passage_found, IsFoundAt, is_found, AreFoundAt, labels_about}
 use Rattle.aa_assert.specs.Holding.{AreWaysTold, QuietAnswersCountAll}
@@ -158,6 +162,28 @@ somebody_too : (d : Part) (o : Option (List ClaimWord)) → AreSomebody d o → 
 somebody_too d None h = h
 somebody_too d (Some ws) h = h
 
+-- nor does it matter for what can break a claim
+same_breaks : (d : Part) (ws : List ClaimWord) (w : Word)
+    → (never_wrong d w ≡ never_wrong (counting_all d) w) × (leads_wrong d ws w ≡ leads_wrong (counting_all d) ws w)
+    × (is_refused_free d w ≡ is_refused_free (counting_all d) w)
+same_breaks d ws (Files w) = (refl, refl, refl)
+same_breaks d ws (Execs w) = (refl, refl, refl)
+same_breaks d ws (One (File r)) = (refl, refl, refl)
+same_breaks d ws (One (Link r)) = (refl, refl, refl)
+same_breaks d ws (One (Execute r)) = (refl, refl, refl)
+same_breaks d ws (One (Cap c)) = (refl, refl, refl)
+same_breaks d ws (One (Net f s)) = (refl, refl, refl)
+same_breaks d ws (One (Change name)) = (refl, refl, refl)
+same_breaks d ws (One (Reload m)) = (refl, refl, refl)
+
+breakable_too : (d : Part) (ws : List ClaimWord) (a : Asked) → unbreakable d ws a ≡ None → unbreakable (counting_all d) ws a ≡ None
+breakable_too d ws (Never w) h = sym (same_breaks d ws w).0 ∙ h
+breakable_too d ws (Leads w ls) h = sym (same_breaks d ws w).1 ∙ h
+breakable_too d ws (Always w) h =
+    sym (ap (λ (b : Bool). if is_about_profile d ws || b then None else Some Granted) (same_breaks d ws w).2) ∙ h
+breakable_too d ws (Reaches ls) h = h
+breakable_too d ws Enforced h = h
+
 pub quiet_answers_count_all : QuietAnswersCountAll
 quiet_answers_count_all first d limit ws head asked fs answer nobody quiet told =
     let are = answer.are in
@@ -171,6 +197,7 @@ quiet_answers_count_all first d limit ws head asked fs answer nobody quiet told 
         led = somebody_too d (names_led ws) answer.scope.led;
         some = answer.scope.some;
       };
+      breakable = breakable_too d ws answer.says answer.breakable;
       are = (
         are.0,
         each_all first answer.says (IsFoundAt d limit answer.says text) (IsFoundAt (counting_all d) limit answer.says text)

@@ -65,6 +65,28 @@ one_of Is (n ∷ ns) m es e = at (list_all (λ k. k == n) ns) e
     at true f = subst Is (same_Some n m f) es.0
     at false f = absurd (let g : None ≡ Some m = f in cc)
 
+-- what is so of each of some numbers is so of that of the profile among them which is attached
+module _ (Is : ℕ → Type 0) (profiles : List Profile) where
+  patterns_are : (n : ℕ) → Is n → (qs : List Pattern) → Each (λ (h : ℕ × Pattern). Is h.0) (map (at_number n) qs)
+  patterns_are n is [] = tt
+  patterns_are n is (q ∷ qs) = (is, patterns_are n is qs)
+
+  all_are : (ns : List ℕ) → Each Is ns → Each (λ (h : ℕ × Pattern). Is h.0) (attachments_by profiles ns)
+  all_are [] es = tt
+  all_are (n ∷ ns) es =
+      each_append (λ (h : ℕ × Pattern). Is h.0) (map (at_number n) (attachments_at profiles n)) (attachments_by profiles ns)
+      (patterns_are n es.0 (attachments_at profiles n)) (all_are ns es.1)
+
+  pub attached_is : (ns : List ℕ) (path : List ℕ) (m : ℕ) → Each Is ns → attached profiles ns path ≡ Some m → Is m
+  attached_is ns path m es e =
+      let hs = filter (λ (h : ℕ × Pattern). is_match h.1.items.items path) (attachments_by profiles ns) in
+      let found = each_filter (λ (h : ℕ × Pattern). Is h.0) (λ (h : ℕ × Pattern). is_match h.1.items.items path) (attachments_by profiles ns)
+      (all_are ns es) in
+      let as' = map attachment_of hs in
+      let each = each_map (λ (a : Attachment). Is a.profile) attachment_of hs found in
+      let strong = each_filter (λ (a : Attachment). Is a.profile) (is_strong (list_any (λ (a : Attachment). a.literal) as') (longest as')) as' each in
+      one_of Is (map (λ (a : Attachment). a.profile) (strongest as')) m (each_map Is (λ (a : Attachment). a.profile) (strongest as') strong) e
+
 module _ (profiles : List Profile) where
   -- the profile of that number is there
   abbrev pub IsThere : ℕ → Type 0
@@ -77,7 +99,7 @@ module _ (profiles : List Profile) where
       (λ (x : (length profiles ≤ n) × (slice_get profiles n ≡ None)). absurd (omega (arith, lt, x.0)))
       (slice_get_cases profiles n).1
 
-  named_there : (name : List ℕ) (m : ℕ) → named profiles name ≡ Some m → IsThere m
+  pub named_there : (name : List ℕ) (m : ℕ) → named profiles name ≡ Some m → IsThere m
   named_there name m e = at profiles refl
     where
       at : (ps : List Profile) → profiles ≡ ps → IsThere m

@@ -114,6 +114,7 @@ module _ (first : Bool) (d : Part) (limit : ℕ) where
     says = says;
     is_asked = h.1.is_asked;
     scope = h.1.scope;
+    breakable = h.1.breakable;
     are = subst (λ (x : ClaimWord). AreFound first d limit (v ∷ w ∷ ws) says x.text.items found) h.0 are;
   }
 

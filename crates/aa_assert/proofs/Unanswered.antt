@@ -14,9 +14,10 @@ use Rattle.aa_claims.specs.Forms.{is_word, is_reach, names_behind, names_within,
 use Rattle.aa_quantifiers.specs.declared.word.Word.{Word}
 use Rattle.aa_assert.specs.declared.asked.Asked.{Asked}
 use Rattle.aa_assert.specs.Asked.{is_enforced, IsAskedBy}
-use Rattle.aa_assert.specs.Scope.{AreSomebody}
+use Rattle.aa_assert.specs.Scope.{AreSomebody, IsInScope}
+use Rattle.aa_assert.specs.Breaking.{IsUnbreakable}
 use Rattle.aa_assert.specs.Refused.{IsUnread, IsNoLead, IsNoLeadBehind, IsUnsaid, NotRead, NotLeading}
-use Rattle.aa_assert.specs.Refused.{IsUnnamed, IsOutOfScope, NotNamed, NotExcepted, NotLed, IsUnstated, NotSaid, OfOthers, IsUnstatedOf}
+use Rattle.aa_assert.specs.Refused.{IsUnnamed, IsOutOfScope, NotNamed, NotExcepted, NotLed, IsUnstated, NotSaid, OfOthers, OfNothing, IsUnstatedOf}
 
 pub says_more : (P Q : ℕ → Wrong → Type 0) (e : ClaimFault) → ((at : ℕ) (fault : Wrong) → P at fault → Q at fault) → SaysAt P e → SaysAt Q e
 says_more P Q NoMemory f h = tt
@@ -63,6 +64,10 @@ module _ (d : Part) (ws : List ClaimWord) (head asked : ClaimWord) (e : ClaimFau
 
   pub of_others : (a : Asked) → IsAskedBy d ws head asked a → SaysAt (IsOutOfScope d ws head) e → SaysAt (IsUnstated d ws head asked) e
   of_others a is = says_more (IsOutOfScope d ws head) (IsUnstated d ws head asked) e (λ at fault h. OfOthers a is h)
+
+  pub of_nothing : (a : Asked) → IsAskedBy d ws head asked a → IsInScope d ws → SaysAt (IsUnbreakable d ws asked a) e
+      → SaysAt (IsUnstated d ws head asked) e
+  of_nothing a is scope = says_more (IsUnbreakable d ws asked a) (IsUnstated d ws head asked) e (λ at fault h. OfNothing a is scope h)
 
 -- a claim of two words at least states nothing for what is said of its first two
 pub of_two : (d : Part) (ws : List ClaimWord) (head asked : ClaimWord) (at : ℕ) (fault : Wrong) → 2 ≤ length ws → head ≡ get_or ws 0 head

@@ -1,6 +1,6 @@
 -- By whom claims are broken.
 -- Source: own.
-use Rattle.std.specs.Prelude.{◌≡◌, ℕ, List, ◌∷◌, ◌++◌, Bool}
+use Rattle.std.specs.Prelude.{◌≡◌, ℕ, List, ◌∷◌, ◌++◌, Bool, None}
 use Rattle.std.specs.List.{AllZip, AllByRecursion}
 use Rattle.aa_claims.specs.declared.words.ClaimWord.{ClaimWord}
 use Rattle.aa_claims.specs.declared.lines.ClaimLine.{ClaimLine}
@@ -12,6 +12,7 @@ use Rattle.aa_assert.specs.declared.kind.Kind.{Kind}
 use Rattle.aa_assert.specs.Kinds.{kind_of}
 use Rattle.aa_assert.specs.Asked.{IsAskedBy}
 use Rattle.aa_assert.specs.Scope.{IsInScope}
+use Rattle.aa_assert.specs.Breaking.{unbreakable}
 use Rattle.aa_assert.specs.Findings.{AllFound, all_found, AreFound}
 use Rattle.aa_assert.specs.Refused.{AsksNoPath}
 use Rattle.aa_assert.specs.declared.stating.Stated.{Stated}
@@ -27,11 +28,13 @@ pub record Answered : Type 0 where
 abbrev pub answered : Answer → Answered
 answered a = record { number = a.number; kind = a.kind; found = all_found a.findings }
 
--- the answer to a claim of these words, of which the first two are these: each of its names names somebody, and it is about somebody
+-- the answer to a claim of these words, of which the first two are these: each of its names names somebody, it is about somebody, and something
+-- can break it
 pub record IsAnswerBy (first : Bool) (d : Part) (limit : ℕ) (ws : List ClaimWord) (head asked : ClaimWord) (found : AllFound) : Type 0 where
   pub says : Asked
   pub is_asked : IsAskedBy d ws head asked says
   pub scope : IsInScope d ws
+  pub breakable : unbreakable d ws says ≡ None
   pub are : AreFound first d limit ws says asked.text.items found
 
 -- the same of a claim by its words

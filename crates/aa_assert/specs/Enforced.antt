@@ -1,6 +1,6 @@
 -- Verdicts where rules are enforced.
 -- Source: apparmor.d(5), "Profile flags"; own.
-use Rattle.std.specs.Prelude.{◌≡◌, List, map, Bool, false, None, if◌then◌else◌}
+use Rattle.std.specs.Prelude.{◌≡◌, List, Bool, false, None, if◌then◌else◌}
 use Rattle.std.specs.Option.{option_map_or}
 use Rattle.aa_model.specs.declared.policy.Policy.{Policy}
 use Rattle.aa_model.specs.declared.policy.Profile.{Profile}
@@ -12,6 +12,7 @@ use Rattle.aa_command.specs.declared.decided.Decided.{Decided}
 use Rattle.aa_ask.specs.Verdicts.{profile_at}
 use Rattle.aa_ask.specs.Told.{Told, label_told, unfound, verdict_on}
 use Rattle.aa_undecided.specs.Holding.{Tells}
+use Rattle.aa_who.specs.Enforced.{AreEnforcing}
 
 -- what is told of a request that complain mode alone grants, where it isn't granted: it changes neither label nor environment
 abbrev pub refused_told : Request → Told → Told
@@ -30,14 +31,6 @@ abbrev pub complains_at : List Policy → Label → Bool
 complains_at policies l = option_map_or (λ (p : Profile). p.complain) (profile_at policies l) false
 
 -- ---- what they are
-
--- the profile without its complain flag
-abbrev pub enforcing : Profile → Profile
-enforcing p = record p { complain = false }
-
--- these policies have the profiles of those without their complain flags
-abbrev pub AreEnforcing : List Policy → List Policy → Type 0
-AreEnforcing ps qs = map (λ (q : Policy). q.profiles) qs ≡ map (λ (p : Policy). map enforcing p.profiles) ps
 
 -- a verdict tells an answer: what it grants, and the label after, where it is another one
 pub record TellsAnswer (ps : List Policy) (l : Label) (t : Told) (a : Answer) : Type 0 where

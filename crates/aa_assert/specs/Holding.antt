@@ -14,6 +14,7 @@ use Rattle.aa_mediate.specs.Reply.{reply}
 use Rattle.aa_ask.specs.Told.{is_same}
 use Rattle.aa_ask.specs.Verdicts.{profile_at}
 use Rattle.aa_representatives.specs.Askable.{IsAskable}
+use Rattle.aa_reachability.specs.Moves.{label_next}
 use Rattle.aa_reachability.specs.Reach.{led_by, AreTold}
 use Rattle.aa_skipping.specs.Laws.{moved}
 use Rattle.aa_undecided.specs.Answers.{files_deciding}
@@ -24,6 +25,7 @@ use Rattle.aa_quantifiers.specs.Words.{IsOf}
 use Rattle.aa_quantifiers.specs.Quantities.{grants, IsAnswered}
 use Rattle.aa_unclean_paths.specs.Requests.{does_request_count}
 use Rattle.aa_who.specs.Untold.{Untold}
+use Rattle.aa_who.specs.Enforced.{AreEnforcing}
 use Rattle.aa_claims.specs.declared.words.ClaimWord.{ClaimWord}
 use Rattle.aa_claims.specs.Forms.{names_led}
 use Rattle.aa_assert.specs.declared.asked.Asked.{Asked}
@@ -165,6 +167,22 @@ abbrev pub ToldFail : Type 0
 ToldFail = (first : Bool) (d : Part) (limit : ℕ) (ws : List ClaimWord) (head asked : ClaimWord) (fs : AllFound)
     → (answer : IsAnswerBy first d limit ws head asked fs) → (f : Found) → Contains fs.list f
     → Holds d.unclean d.decided.policies.now ws answer.says → ⊥
+
+-- ---- by the policies whose complain flags are cleared
+
+-- what is claimed is what is answered: not that no profile complains
+abbrev pub is_on_answers : Asked → Bool
+is_on_answers Enforced = false
+is_on_answers _ = true
+
+-- a claim on answers is broken at a label exactly where it is by such policies, which grant nothing by complain mode alone
+abbrev pub ClaimsEnforced : Type 0
+ClaimsEnforced = (unclean : Bool) (ps qs : List Policy) → AreEnforcing ps qs → (ws : List ClaimWord) (l : Label) (says : Asked) → is_on_answers says ≡ true
+    → (IsBrokenAt unclean ps ws l says → IsBrokenAt unclean qs ws l says) × (IsBrokenAt unclean qs ws l says → IsBrokenAt unclean ps ws l says)
+
+-- requests lead, one after another, where by these the mediator's answers lead
+abbrev pub WaysEnforced : Type 0
+WaysEnforced = (ps qs : List Policy) → AreEnforcing ps qs → (l : Label) (rs : List Request) → led_by (going ps) l rs ≡ led_by (label_next qs) l rs
 
 -- ---- beside skipped files
 

@@ -5,6 +5,7 @@ pub mod Asked
 pub mod Passages
 pub mod Judging
 pub mod Enforced
+pub mod Breaking
 pub mod Refused
 pub mod Findings
 pub mod Stating
@@ -18,3 +19,4 @@ pub mod Listed
 pub mod Json
 pub mod Command
 pub mod Holding
+pub mod Unbreakable

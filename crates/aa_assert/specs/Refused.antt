@@ -19,7 +19,8 @@ use Rattle.aa_assert.specs.declared.part.Part.{Part}
 use Rattle.aa_assert.specs.declared.asked.Asked.{Asked}
 use Rattle.aa_assert.specs.declared.asked.Asked.TheVariants.{Never, Leads, Always, Reaches, Enforced}
 use Rattle.aa_assert.specs.Asked.{is_enforced, IsAskedBy}
-use Rattle.aa_assert.specs.Scope.{is_about_some, AreSomebody, NamesNobody}
+use Rattle.aa_assert.specs.Scope.{is_about_some, AreSomebody, NamesNobody, IsInScope}
+use Rattle.aa_assert.specs.Breaking.{IsUnbreakable}
 
 -- by why its word isn't answered
 abbrev pub fault_of : ℕ → WhoFault → ClaimFault
@@ -79,10 +80,11 @@ pub data IsOutOfScope (d : Part) (ws : List ClaimWord) (head : ClaimWord) (at : 
   OfNobody : AreSomebody d (names_within ws) → AreSomebody d (names_behind (codes "except") ws)
       → AreSomebody d (names_led ws) → at ≡ head.at → fault ≡ Nobody → is_about_some d ws ≡ false → IsOutOfScope d ws head at fault
 
--- why a claim of these words states nothing: it doesn't say what is claimed, or else it is about nobody who is there
+-- why a claim of these words states nothing: it doesn't say what is claimed, or else it is about nobody who is there, or else nothing can break it
 pub data IsUnstated (d : Part) (ws : List ClaimWord) (head asked : ClaimWord) (at : ℕ) (fault : Wrong) : Type 0 where
   NotSaid : IsUnsaid ws head asked at fault → IsUnstated d ws head asked at fault
   OfOthers : (a : Asked) → IsAskedBy d ws head asked a → IsOutOfScope d ws head at fault → IsUnstated d ws head asked at fault
+  OfNothing : (a : Asked) → IsAskedBy d ws head asked a → IsInScope d ws → IsUnbreakable d ws asked a at fault → IsUnstated d ws head asked at fault
 
 -- the same of a claim by its words
 abbrev pub IsUnstatedOf : Part → List ClaimWord → ℕ → Wrong → Type 0

@@ -68,9 +68,13 @@ may_concern ws k = concerns ws k.unread
 abbrev pub is_somebody : Part → ClaimWord → Bool
 is_somebody d w = is_word (codes "unconfined") w || (list_any (λ (p : Profile). names w p.name) (first_profiles d.decided.policies.now) || list_any (may_have w) d.skipped.now)
 
--- the claim is about some task, or may be about one of a skipped file
+-- the claim is about some profile, or may be about one of a skipped file
+abbrev pub is_about_profile : Part → List ClaimWord → Bool
+is_about_profile d ws = list_any (λ (p : Profile). is_about ws p.name) (first_profiles d.decided.policies.now) || list_any (may_concern ws) d.skipped.now
+
+-- or about tasks without one
 abbrev pub is_about_some : Part → List ClaimWord → Bool
-is_about_some d ws = is_about_free ws || (list_any (λ (p : Profile). is_about ws p.name) (first_profiles d.decided.policies.now) || list_any (may_concern ws) d.skipped.now)
+is_about_some d ws = is_about_free ws || is_about_profile d ws
 
 -- each name of a clause names somebody, if the clause stands there
 abbrev pub AreSomebody : Part → Option (List ClaimWord) → Type 0

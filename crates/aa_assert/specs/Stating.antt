@@ -1,6 +1,6 @@
 -- What claims state, before any is answered.
 -- Source: own.
-use Rattle.std.specs.Prelude.{◌≡◌, ℕ, List, ◌∷◌, ◌++◌}
+use Rattle.std.specs.Prelude.{◌≡◌, ℕ, List, ◌∷◌, ◌++◌, None}
 use Rattle.std.specs.List.{AllZip, AllByRecursion}
 use Rattle.aa_claims.specs.declared.words.ClaimWord.{ClaimWord}
 use Rattle.aa_claims.specs.declared.lines.ClaimLine.{ClaimLine}
@@ -10,12 +10,15 @@ use Rattle.aa_assert.specs.declared.asked.Asked.{Asked}
 use Rattle.aa_assert.specs.declared.stating.Stated.{Stated}
 use Rattle.aa_assert.specs.Asked.{IsAskedBy}
 use Rattle.aa_assert.specs.Scope.{IsInScope}
+use Rattle.aa_assert.specs.Breaking.{unbreakable}
 use Rattle.aa_assert.specs.Refused.{IsUnstatedOf}
 
--- a claim of these words, of which the first two are these, says that; each of its names names somebody, and it is about somebody
+-- a claim of these words, of which the first two are these, says that; each of its names names somebody, it is about somebody, and something
+-- can break it
 pub record IsStatedBy (d : Part) (ws : List ClaimWord) (head asked : ClaimWord) (says : Asked) : Type 0 where
   pub is_asked : IsAskedBy d ws head asked says
   pub scope : IsInScope d ws
+  pub breakable : unbreakable d ws says ≡ None
 
 -- the same of a claim by its words, of which that is the second
 abbrev pub IsStatedOf : Part → List ClaimWord → ClaimWord → Asked → Type 0

@@ -263,8 +263,8 @@ fn assert_text<T: Tree>(
 /// Prints of each claim of a file by which profiles of the one policy that files are it is broken: each with a request that breaks it, at a
 /// clean path where there is one and of these with a shortest, and the rules that decide it; behind those by whom at unclean paths alone,
 /// where these don't count. A profile of which that can't be told is said, and the others are told. Refused, at its word, is what is no
-/// claim, then what states nothing of somebody who is there, and then, once those before it are answered, what nothing can break; and a
-/// file without a claim. Where files that are refused are skipped, a claim that nobody breaks whom is read, and that their profiles could
+/// claim, then what states nothing of somebody who is there, or what nothing can break, whatever the rules say, and then, once those before it
+/// are answered, what asks for no path that can be asked for; and a file without a claim. Where files that are refused are skipped, a claim that nobody breaks whom is read, and that their profiles could
 /// break, is undecided.
 pub fn assert_files<T: Tree>(
     alloc: Global,

@@ -1,7 +1,8 @@
 //! What answers say of claims, and what skipped files don't change of that; and what verdicts are where rules are enforced.
 
 ghost use Rattle.aa_assert.specs.Enforced.{EnforcedVerdicts};
-ghost use Rattle.aa_assert.specs.Holding.{ClearClaimsHold, ToldBreak, ToldApart, QuietAnswersCountAll, ToldFail, ToldWaysBreak, ClaimsHold, FreeClaimsHold, BreakingsStand, EndingsStand, WaysStand, ArrivalsStand};
+ghost use Rattle.aa_assert.specs.Holding.{ClearClaimsHold, ToldBreak, ToldApart, QuietAnswersCountAll, ToldFail, ToldWaysBreak, ClaimsEnforced, WaysEnforced, ClaimsHold, FreeClaimsHold, BreakingsStand, EndingsStand, WaysStand, ArrivalsStand};
+ghost use Rattle.aa_assert.specs.Unbreakable.{UnbreakableHold};
 
 use aa_quantifiers::closed_words_are_decided;
 use aa_skipped::each_file_decides;
@@ -38,8 +39,17 @@ pub fn claims_are_sound()
     closed_words_are_decided()
 }
 
-/// The verdict on a request where rules are enforced tells the mediator's answer by the policies whose complain flags are cleared. It does
+/// The verdict on a request where rules are enforced tells the mediator's answer by the policies whose complain flags are cleared; and a claim on
+/// requests, or on lists of these, is broken exactly where it is by such policies, in which the mediator's answers lead as the lists do. It does
 /// nothing: its contract is a law of the definitions.
 pub fn verdicts_are_enforced()
-    ensures { EnforcedVerdicts }
+    ensures verdicts { EnforcedVerdicts }
+    ensures claims { ClaimsEnforced }
+    ensures ways { WaysEnforced }
+{}
+
+/// A claim that is refused since nothing can break it holds by each policy whose profiles are called as those that are read, and are children of
+/// the same: whatever their rules, attachments and flags are. It does nothing: its contract is a law of the definitions.
+pub fn unbreakable_claims_hold()
+    ensures { UnbreakableHold }
 {}

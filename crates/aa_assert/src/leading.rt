@@ -31,7 +31,8 @@ pub(crate) fn may_lead(word: &Word) -> bool
     }
 }
 
-fn is_named_in(
+/// Whether a clause names the profile.
+pub(crate) fn is_named_in(
     alloc: Global,
     clause: Option<&[ClaimWord]>,
     profile: &Profile,

@@ -3,6 +3,7 @@
 
 mod answering;
 mod asked;
+mod breaking;
 mod command;
 mod enforced;
 mod finding;
@@ -25,4 +26,6 @@ mod unclean;
 mod way;
 
 pub use command::{AssertOptions, assert_files};
-pub use laws::{answers_tell_what_holds, claims_are_sound, verdicts_are_enforced};
+pub use laws::{
+    answers_tell_what_holds, claims_are_sound, unbreakable_claims_hold, verdicts_are_enforced,
+};

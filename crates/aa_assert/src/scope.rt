@@ -7,7 +7,7 @@ ghost use Rattle.aa_claims.specs.declared.words.ClaimWord.{ClaimWord};
 ghost use Rattle.aa_claims.specs.Faults.{SaysAt};
 ghost use Rattle.aa_claims.specs.Forms.{is_word, names_behind, names_within};
 ghost use Rattle.aa_assert.specs.Names.{names};
-ghost use Rattle.aa_assert.specs.Scope.{is_among, is_about, names_free, is_about_free, may_be, may_have, may_be_among, are_all_among, may_be_about_behind, may_be_about, may_concern, is_somebody, is_about_some, AreSomebody};
+ghost use Rattle.aa_assert.specs.Scope.{is_among, is_about, names_free, is_about_free, may_be, may_have, may_be_among, are_all_among, may_be_about_behind, may_be_about, may_concern, is_somebody, is_about_profile, is_about_some, AreSomebody};
 ghost use Rattle.aa_assert.specs.Refused.{IsUnnamed};
 
 use crate::names::{is_named, is_one_named, may_name, one_covers, one_may_name};
@@ -119,7 +119,11 @@ fn may_have(alloc: Global, word: &ClaimWord, file: &Skipped) -> Result<bool, All
     one_may_be(alloc, word, file.unread.heads.as_slice())
 }
 
-fn one_may_have(alloc: Global, skipped: &[Skipped], word: &ClaimWord) -> Result<bool, AllocError>
+pub(crate) fn one_may_have(
+    alloc: Global,
+    skipped: &[Skipped],
+    word: &ClaimWord,
+) -> Result<bool, AllocError>
     ensures { IfOk result (λ may. may ≡ list_any (may_have word.now) skipped.now) }
 {
     for file in skipped {
@@ -200,7 +204,7 @@ pub(crate) fn may_concern(
     may_be_about_one(alloc, words, file.unread.heads.as_slice())
 }
 
-fn one_may_concern(
+pub(crate) fn one_may_concern(
     alloc: Global,
     skipped: &[Skipped],
     words: &[ClaimWord],
@@ -257,7 +261,7 @@ pub(crate) fn check_names(
 }
 
 /// Whether a claim of these words is about one of these profiles.
-fn is_about_one(
+pub(crate) fn is_about_one(
     alloc: Global,
     profiles: &[Profile],
     words: &[ClaimWord],
@@ -272,7 +276,21 @@ fn is_about_one(
     Ok(false)
 }
 
-/// Whether a claim of these words is about some task.
+/// Whether a claim of these words is about some profile.
+pub(crate) fn is_about_profile(
+    alloc: Global,
+    part: Part<'_>,
+    words: &[ClaimWord],
+) -> Result<bool, AllocError>
+    ensures { IfOk result (λ is. is ≡ is_about_profile part.entry words.now) }
+{
+    if is_about_one(alloc, first_profiles(part.decided.policies), words)? {
+        return Ok(true);
+    }
+    one_may_concern(alloc, part.skipped, words)
+}
+
+/// Whether it is about some task.
 pub(crate) fn is_about_some(
     alloc: Global,
     part: Part<'_>,
@@ -283,8 +301,5 @@ pub(crate) fn is_about_some(
     if is_about_free(words) {
         return Ok(true);
     }
-    if is_about_one(alloc, first_profiles(part.decided.policies), words)? {
-        return Ok(true);
-    }
-    one_may_concern(alloc, part.skipped, words)
+    is_about_profile(alloc, part, words)
 }

@@ -7,12 +7,13 @@ ghost use Rattle.aa_assert.specs.Refused.{IsOutOfScope, IsUnstated, IsUnstatedOf
 ghost use Rattle.aa_assert.specs.Stating.{IsStatedBy, IsStated, AreStated, IsFirstUnstated};
 
 use crate::asked::{Asked, asked_by};
+use crate::breaking::check_breakable;
 use crate::part::Part;
 use crate::scope::{check_names, is_about_some};
 use aa_claims::{ClaimFault, ClaimLine, ClaimWord, Wrong, names_behind, names_led, names_within};
 use std::alloc::Global;
 
-/// What the claim on a line states: each of its names names somebody, and it is about somebody.
+/// What the claim on a line states: each of its names names somebody, it is about somebody, and something can break it.
 #[derive(Drop)]
 pub(crate) struct Stated<'a> {
     pub(crate) line: &'a ClaimLine,
@@ -40,7 +41,7 @@ fn check_scope(
     Ok(())
 }
 
-/// What a claim of these words says, whose names are looked at.
+/// What a claim of these words says, whose names are looked at, and whether something can break it.
 fn said_by(
     alloc: Global,
     part: Part<'_>,
@@ -53,6 +54,7 @@ fn said_by(
 {
     let asked = asked_by(alloc, part, words, head, word)?;
     check_scope(alloc, part, words, head)?;
+    check_breakable(alloc, part, words, word, &asked)?;
     Ok(asked)
 }
 

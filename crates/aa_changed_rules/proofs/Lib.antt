@@ -6,3 +6,4 @@ pub mod Sets
 pub mod Telling
 pub mod News
 pub mod Knowing
+pub mod Ranging

@@ -2,3 +2,5 @@ pub mod Codes
 pub mod Forms
 pub mod Sameness
 pub mod Changed
+pub mod Matching
+pub mod Attachments

@@ -33,6 +33,10 @@ opening wrong.NoLead = codes "to stands behind executions and changes of profile
 opening wrong.NoProfile = codes "no profile has such a name"
 opening wrong.NoPath = codes "no path that can be asked for matches the pattern: nothing can break the claim"
 opening wrong.Nobody = codes "the claim is about no profile: nothing can break it"
+opening wrong.NoChange = codes "no profile has this name, so no change to it is granted: nothing can break the claim"
+opening wrong.Elsewhere = codes "this leads to none of the labels behind to: nothing can break the claim"
+opening wrong.Granted = codes "the claim is about tasks without a profile alone, which are granted this: nothing can break it"
+opening wrong.There = codes "reach names no other label than that where a task begins: nothing can break the claim"
 opening wrong.TooMany = codes "a file has at most 65,536 claims"
 
 -- why it is no request, where that is wrong with it

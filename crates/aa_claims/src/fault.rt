@@ -33,6 +33,14 @@ pub enum Wrong {
     NoPath,
     /// It is about no profile.
     Nobody,
+    /// No profile has the name to which it would be changed.
+    NoChange,
+    /// What is claimed leads to none of the labels behind `to`, whatever the rules say.
+    Elsewhere,
+    /// It is about tasks without a profile alone, which are granted all that it says.
+    Granted,
+    /// Whoever it is about is at the one label that it names.
+    There,
     /// There are more than 65,536 claims with it.
     TooMany,
 }

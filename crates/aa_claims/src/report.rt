@@ -31,6 +31,18 @@ fn opening_of(wrong: &Wrong) -> &'static str
             "no path that can be asked for matches the pattern: nothing can break the claim"
         }
         Wrong::Nobody => "the claim is about no profile: nothing can break it",
+        Wrong::NoChange => {
+            "no profile has this name, so no change to it is granted: nothing can break the claim"
+        }
+        Wrong::Elsewhere => {
+            "this leads to none of the labels behind to: nothing can break the claim"
+        }
+        Wrong::Granted => {
+            "the claim is about tasks without a profile alone, which are granted this: nothing can break it"
+        }
+        Wrong::There => {
+            "reach names no other label than that where a task begins: nothing can break the claim"
+        }
         Wrong::TooMany => "a file has at most 65,536 claims",
     }
 }

@@ -2,8 +2,9 @@
 
 use crate::comparing::{equal, equal_in, holds};
 use crate::texts::policies_in;
-use aa_differences::{Difference, DifferencesFault, policy_differences};
+use aa_differences::{Comparison, Difference, Excess, policy_differences};
 use aa_model::{Label, Request};
+use std::alloc::AllocError;
 use std::process::Abort;
 
 /// How many are granted by the new policy alone, by the old one alone, and else.
@@ -20,13 +21,13 @@ fn counts(differences: &[Difference]) -> [usize; 3] {
     counts
 }
 
-/// What the policies answer differently that the texts spell, between which stands `¦`.
-fn differences(
+/// What comparing the policies gives that the texts spell, between which stands `¦`.
+fn compared(
     rt: &(impl Abort + AllocGlobal),
     old: &str,
     new: &str,
     limit: usize,
-) -> Result<Vec<Difference>, DifferencesFault> {
+) -> Result<Comparison, AllocError> {
     let (old, new) = (policies_in(rt, old), policies_in(rt, new));
     assert!(rt; old.len() <= 16 && new.len() <= 16 && limit > 0 && limit <= 4096);
     policy_differences(rt.alloc(), old.as_slice(), new.as_slice(), limit)
@@ -62,8 +63,10 @@ fn each_answer_that_differs_is_listed(rt: HostRuntime) {
     for row in COMPARED.split('§') {
         if let Some((policies, wanted)) = row.split_once('»') {
             let (old, new) = policies.split_once('¦').expect(&rt, row);
-            let found = counts(differences(&rt, old, new, 4096).expect(&rt, row).as_slice());
-            let told = format!(in rt.alloc(); "{found:?}").expect(&rt, "memory");
+            let found = compared(&rt, old, new, 4096).expect(&rt, row);
+            holds(&rt, found.untold.is_empty());
+            let changed = counts(found.differences.as_slice());
+            let told = format!(in rt.alloc(); "{changed:?}").expect(&rt, "memory");
             equal_in(&rt, told.as_str(), wanted, row);
         }
     }
@@ -71,17 +74,17 @@ fn each_answer_that_differs_is_listed(rt: HostRuntime) {
 
 #[test]
 fn a_policy_more_is_told_by_what_is_decided_by_it(rt: HostRuntime) {
-    let found = differences(&rt, "profile p { }", "profile p { }¦profile p { }", 4096);
-    holds(&rt, found.expect(&rt, "differences").len() > 2);
+    let found = compared(&rt, "profile p { }", "profile p { }¦profile p { }", 4096);
+    holds(&rt, found.expect(&rt, "differences").differences.len() > 2);
 }
 
 #[test]
 fn what_another_label_is_asked_is_not_listed_at_this_one(rt: HostRuntime) {
     let old = "profile p { } profile q { capability kill, }";
     let new = "profile p { } profile q { }";
-    let found = differences(&rt, old, new, 4096).expect(&rt, "differences");
-    equal(&rt, found.len(), 1);
-    for difference in found.as_slice() {
+    let found = compared(&rt, old, new, 4096).expect(&rt, "differences");
+    equal(&rt, found.differences.len(), 1);
+    for difference in found.differences.as_slice() {
         let found = (difference.from, difference.to);
         equal(&rt, found, (Label::Confined(0, 1), Label::Confined(0, 1)));
         holds(&rt, matches!(&difference.request, Request::Cap(_)));
@@ -89,9 +92,21 @@ fn what_another_label_is_asked_is_not_listed_at_this_one(rt: HostRuntime) {
 }
 
 #[test]
-fn labels_that_need_more_states_than_the_limit_are_told(rt: HostRuntime) {
-    let new = "profile p { /{ab,cd,ef}g r, }";
-    let found = differences(&rt, "profile p { /a r, }", new, 2);
-    let is_so = matches!(found, Err(DifferencesFault::TooManyStates(..)));
-    holds(&rt, is_so);
+fn labels_that_need_more_states_than_the_limit_are_told_beside_the_others(rt: HostRuntime) {
+    let old = "profile p { /a r, } profile q { capability kill, }";
+    let new = "profile p { /srv/*/a/*/b/*/c/*/d/*/e/*/f r, } profile q { }";
+    let found = compared(&rt, old, new, 30).expect(&rt, "differences");
+    equal(&rt, found.untold.len(), 1);
+    for labels in found.untold.as_slice() {
+        equal(
+            &rt,
+            (labels.from, labels.to),
+            (Label::Confined(0, 0), Label::Confined(0, 0)),
+        );
+        holds(&rt, matches!(labels.why, Excess::States));
+    }
+    equal(&rt, found.differences.len(), 1);
+    for difference in found.differences.as_slice() {
+        equal(&rt, difference.from, Label::Confined(0, 1));
+    }
 }

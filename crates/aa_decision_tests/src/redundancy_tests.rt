@@ -1,11 +1,11 @@
 //! Which rules of worked policies can go, where each stands at a place of its own or all of one text at one.
 
-use crate::comparing::{equal_in, holds};
+use crate::comparing::{equal, equal_in, holds};
 use crate::texts::policies_in;
 use aa_base::Seq;
 use aa_compile::Compiled;
 use aa_model::Profile;
-use aa_redundancy::{Excess, Going, PlaceNumbers, PolicyRedundancyFault, redundant_places};
+use aa_redundancy::{Excess, Going, PlaceNumbers, redundant_places};
 use std::process::Abort;
 
 /// So many numbers that nothing before has.
@@ -157,17 +157,20 @@ fn a_place_that_is_held_stays(rt: HostRuntime) {
 }
 
 #[test]
-fn the_profile_is_named_whose_patterns_need_too_many_states(rt: HostRuntime) {
-    let text = "profile p { } profile q { change_profile -> /opt/tool, }";
+fn no_rule_goes_of_a_profile_whose_patterns_need_too_many_states(rt: HostRuntime) {
+    let text = "profile p { /a r, /a r, /b r, } profile q { /a r, change_profile -> /opt/tool, }";
     let list = policies_in(&rt, text);
     let profiles = profiles_in(&rt, list.as_slice());
     let mut places = Vec::new(rt.alloc());
-    places.push(of_files(&rt, &[])).expect(&rt, "memory");
-    places.push(of_files(&rt, &[])).expect(&rt, "memory");
-    let refused = redundant_places(rt.alloc(), profiles, places.as_slice(), 0, &[], 7);
-    let is_so = matches!(
-        refused,
-        Err(PolicyRedundancyFault::OfProfile(1, Excess::States))
-    );
-    holds(&rt, is_so);
+    places.push(of_files(&rt, &[0, 1, 2])).expect(&rt, "memory");
+    places.push(of_files(&rt, &[0])).expect(&rt, "memory");
+    let found = redundant_places(rt.alloc(), profiles, places.as_slice(), 3, &[], 7);
+    let found = found.ok().expect(&rt, text);
+    let told = told(&rt, &found.going);
+    equal(&rt, str::from_utf8(told.as_slice()).ok(), Some(".g."));
+    equal(&rt, found.untold.len(), 1);
+    for profile in found.untold.as_slice() {
+        equal(&rt, profile.number, 1);
+        holds(&rt, matches!(profile.why, Excess::States));
+    }
 }

@@ -2,9 +2,9 @@ mod Steps
 mod Sided
 mod Lists
 mod Telling
+mod Gaining
 mod Counting
 mod Sorting
 mod Placing
-mod Ordering
-mod Merging
 mod Quiet
+mod Keeping

@@ -19,7 +19,7 @@ use Rattle.aa_model.specs.declared.label.Label.TheVariants.{Unconfined, Confined
 use Rattle.aa_model.specs.declared.answer.Answer.{Answer}
 use Rattle.aa_model.specs.declared.request.Request.{Request}
 use Rattle.aa_compile.specs.FileRules.{is_nil}
-use Rattle.aa_compile.specs.Labels.{profile_in, first_profiles}
+use Rattle.aa_compile.specs.Labels.{label_name, profile_in, first_profiles}
 use Rattle.aa_compile.specs.Transitions.{named}
 use Rattle.aa_compile.proofs.ConflictLemmas.{got_in, in_head}
 use Rattle.aa_mediate.specs.Reply.{reply}
@@ -39,7 +39,8 @@ use Rattle.aa_undecided.specs.Holding.{unreads}
 use Rattle.aa_undecided.proofs.Sound.{none_such}
 use Rattle.aa_differences.specs.declared.at_labels.Difference.{Difference}
 use Rattle.aa_differences.specs.Same.{name_of, SameLabel, SameAnswer, AnsweredAlike}
-use Rattle.aa_differences.specs.Differences.{IsEntryOf}
+use Rattle.aa_differences.specs.declared.comparison.UntoldLabels.{UntoldLabels}
+use Rattle.aa_differences.specs.Differences.{IsEntryOf, AreTold}
 use Rattle.aa_differences.specs.Openings.{is_open_label, ClosedLabels}
 use Rattle.aa_differences.proofs.Pairing.{named_is}
 use Rattle.aa_passed_over.specs.declared.apart.Side.{Side}
@@ -54,9 +55,10 @@ use Rattle.aa_diff.specs.Signs.{sign_of}
 use Rattle.aa_diff.specs.Named.{is_named}
 use Rattle.aa_diff.specs.Telling.{IsTold, Itself, ByPart, LinesTellEntries}
 use Rattle.aa_diff.specs.Untold.{About, Free, Named, Others, Untold, is_shown, is_some_file, untold_if, files_opening, undecided_at, undecided_by, undecided_of, all_undecided, untold_of, untold_head}
-use Rattle.aa_diff.specs.Untold.{untold_others, untold_file, untold_missing, all_not_compared, is_decided, decided_if, decided_of}
+use Rattle.aa_diff.specs.Untold.{untold_others, untold_file, untold_missing, all_not_compared, is_decided, decided_if, decided_of, Large, about_label, large_at, large_of, all_large}
 use Rattle.aa_unclean_paths.specs.Requests.{is_at_unclean_path, does_request_count}
-use Rattle.aa_diff.specs.Holding.{DoesCount, called_at, is_free, covers_name, is_untold, is_apart, lines_told, IsQuiet, IsQuietFree, AreBeside, ProfilesHold, FreeHold}
+use Rattle.aa_diff.specs.Holding.{DoesCount, called_at, is_nobody, names, is_free, covers_name, is_untold, is_large, is_free_large, is_apart, lines_told, IsQuiet, IsQuietFree, AreBeside}
+use Rattle.aa_diff.specs.Holding.{ProfilesHold, FreeHold}
 use Rattle.aa_diff.proofs.Telling.{label_same}
 use Rattle.aa_diff.proofs.Counting.{part_unclean, counts_too}
 
@@ -106,6 +108,11 @@ both_nil [] [] e = (refl, refl)
 both_nil [] (g ∷ gs) e = absurd (true≢false e)
 both_nil (f ∷ fs) gs e = absurd (true≢false e)
 
+-- the name of a profile that is there
+name_there : (ps : List Policy) (k n : ℕ) (p : Profile) → profile_in ps k n ≡ Some p → label_name ps (Confined k n) ≡ p.name
+unfolding label_name
+name_there ps k n p there = ap (λ (o : Option Profile). option_map_or (λ (x : Profile). x.name) o []) there
+
 -- ---- what is told of nobody
 
 module _ (w : Wanted) (all : texts w.profiles.now ≡ []) where
@@ -125,6 +132,24 @@ module _ (w : Wanted) (all : texts w.profiles.now ≡ []) where
           let test : (is_shown w who && is_some_file old new) ≡ true = ap (λ (c : Bool). c && is_some_file old new) shown ∙ g in
           let listed = ap (λ (c : Bool). list_any f (cond c (record { who = who; old = old; new = new } ∷ []) [])) test in
           absurd (true≢false (ap (λ (c : Bool). c || false) (sym is) ∙ (sym listed ∙ none)))
+
+  -- ---- labels whose patterns aren't too many
+
+  told_at : (f : Large → Bool) (ps : List Policy) (limit : ℕ) (ls : List UntoldLabels) (l m : Label)
+      → ((u : UntoldLabels) → u.from ≡ l → f (large_at ps limit u) ≡ true) → list_any f (all_large w ps limit ls) ≡ false → AreTold ls l m
+  told_at f ps limit ls l m is none u c from to =
+      let own = flat_none f (large_of w ps limit) ls u c none in
+      let listed = ap (λ (b : Bool). list_any f (cond b (large_at ps limit u ∷ []) [])) (shows (about_label ps u.from)) in
+      true≢false (ap (λ (b : Bool). b || false) (sym (is u from)) ∙ (sym listed ∙ own))
+
+  free_told : (ps : List Policy) (limit : ℕ) (ls : List UntoldLabels) (m : Label) → list_any is_free_large (all_large w ps limit ls) ≡ false → AreTold ls (Unconfined 0) m
+  free_told ps limit ls m none = told_at is_free_large ps limit ls (Unconfined 0) m (λ u from. ap (λ (a : Label). is_nobody (about_label ps a)) from) none
+
+  profile_told : (ps : List Policy) (limit : ℕ) (ls : List UntoldLabels) (n : ℕ) (p : Profile) (m : Label) (name : List ℕ) → profile_in ps 0 n ≡ Some p → p.name ≡ name
+      → list_any (is_large name) (all_large w ps limit ls) ≡ false → AreTold ls (Confined 0 n) m
+  profile_told ps limit ls n p m name there called none =
+      told_at (is_large name) ps limit ls (Confined 0 n) m
+      (λ u from. ap (λ (a : Label). names name (about_label ps a)) from ∙ (bytes_eq-Decides (label_name ps (Confined 0 n)) name).1 (name_there ps 0 n p there ∙ called)) none
 
   -- ---- labels at which nothing is undecided
 
@@ -337,8 +362,8 @@ module _ (stand : NamesStand) (each : EachDecides) (closed : ClosedLabels) where
     unfolding files_deciding
     deciding_none r = subst (λ (ps : List Policy). files_deciding ps d.skipped.now l r ≡ []) (sym one) (such_none (λ (u : Unread). undecided read.profiles u l r) d.skipped.now (sure r))
 
-  module _ (lines : LinesTellEntries) (w : Wanted) (d e : Part) (xs : List Difference) (read whole read' whole' : Policy) (place place' : ℕ → ℕ)
-      (b : AreBeside w d e xs read whole read' whole' place place') where
+  module _ (lines : LinesTellEntries) (w : Wanted) (limit : ℕ) (d e : Part) (xs : List Difference) (ls : List UntoldLabels) (read whole read' whole' : Policy) (place place' : ℕ → ℕ)
+      (b : AreBeside w d e xs ls read whole read' whole' place place') where
     abbrev us : List Unread
     us = unreads d.skipped.now
 
@@ -367,15 +392,15 @@ module _ (stand : NamesStand) (each : EachDecides) (closed : ClosedLabels) where
 
     -- at labels at which nothing is undecided and no line that counts is
     quiet_at : (unclean : Bool) (l m : Label) → has_label read.profiles l ≡ true → has_label read'.profiles m ≡ true → SameLabel d.decided.policies.now e.decided.policies.now l m
-        → files_opening d l ≡ [] → files_opening e m ≡ [] → ((f : Finding) → Contains (lines_told d e xs) f → DoesCount unclean f → f.from ≡ l → ⊥) → (r : Request) → IsAskable r
+        → AreTold ls l m → files_opening d l ≡ [] → files_opening e m ≡ [] → ((f : Finding) → Contains (lines_told d e xs) f → DoesCount unclean f → f.from ≡ l → ⊥) → (r : Request) → IsAskable r
         → does_request_count unclean r ≡ true
         → AnsweredAlike (whole ∷ []) (whole' ∷ []) (moved f' l) (moved g' m) r
-    quiet_at unclean l m here there same none none' never_so r askable counts =
+    quiet_at unclean l m here there same told none none' never_so r askable counts =
         ⊎_elim
         (λ (alike : AnsweredAlike d.decided.policies.now e.decided.policies.now l m r). stands (subst (λ (qs : List Policy). AnsweredAlike (read ∷ []) qs l m r) b.new.one
         (subst (λ (ps : List Policy). AnsweredAlike ps e.decided.policies.now l m r) b.old.one alike)))
         (λ (entry : (x : Difference) × Contains xs x × IsEntryOf d.decided.policies.now e.decided.policies.now l m r x). absurd (listed entry.0 entry.1 entry.2))
-        (b.listed l m same r askable)
+        (b.listed l m same told r askable)
       where
         stands : AnsweredAlike (read ∷ []) (read' ∷ []) l m r → AnsweredAlike (whole ∷ []) (whole' ∷ []) (moved f' l) (moved g' m) r
         stands alike =
@@ -398,12 +423,13 @@ module _ (stand : NamesStand) (each : EachDecides) (closed : ClosedLabels) where
             let line = line_of x (flat_map_in (decided_if d e) xs x x c (subst (λ (own : Bool). Contains (cond own (x ∷ []) []) x) (sym decided) (in_head x []))) in
             never_so line.0 line.1 (counts_too unclean line.0.request x.request r line.3 is.clean counts) (line.2 ∙ is.from)
 
-    free_quiet : (unclean : Bool) → IsQuietFree unclean w d e xs → (r : Request) → IsAskable r → does_request_count unclean r ≡ true → AnsweredAlike (whole ∷ []) (whole' ∷ []) (Unconfined 0) (Unconfined 0) r
+    free_quiet : (unclean : Bool) → IsQuietFree unclean w limit d e xs ls → (r : Request) → IsAskable r → does_request_count unclean r ≡ true → AnsweredAlike (whole ∷ []) (whole' ∷ []) (Unconfined 0) (Unconfined 0) r
     free_quiet unclean quiet r askable counts =
         let none = free_none w b.all d e quiet.decided in
-        quiet_at unclean (Unconfined 0) (Unconfined 0) refl refl refl none.0 none.1 quiet.lines r askable counts
+        let told = free_told w b.all d.decided.policies.now limit ls (Unconfined 0) quiet.small in
+        quiet_at unclean (Unconfined 0) (Unconfined 0) refl refl refl told none.0 none.1 quiet.lines r askable counts
 
-    profile_quiet : (unclean : Bool) (name : List ℕ) → IsQuiet unclean w d e xs name → (m n : ℕ) (p q : Profile) → slice_get whole.profiles m ≡ Some p
+    profile_quiet : (unclean : Bool) (name : List ℕ) → IsQuiet unclean w limit d e xs ls name → (m n : ℕ) (p q : Profile) → slice_get whole.profiles m ≡ Some p
         → p.name ≡ name → slice_get whole'.profiles n ≡ Some q → q.name ≡ name
         → (r : Request) → IsAskable r → does_request_count unclean r ≡ true → AnsweredAlike (whole ∷ []) (whole' ∷ []) (Confined 0 m) (Confined 0 n) r
     profile_quiet unclean name quiet m n p q got called got' called' r askable counts =
@@ -415,7 +441,8 @@ module _ (stand : NamesStand) (each : EachDecides) (closed : ClosedLabels) where
         let there' : profile_in e.decided.policies.now 0 new.0 ≡ Some new.1 = ap (λ (ps : List Policy). profile_in ps 0 new.0) b.new.one ∙ new.2 in
         let same : SameLabel d.decided.policies.now e.decided.policies.now (Confined 0 old.0) (Confined 0 new.0) =
         (refl, ap name_of there ∙ (ap Some (old.3 ∙ sym new.3) ∙ sym (ap name_of there'))) in
-        let alike = quiet_at unclean (Confined 0 old.0) (Confined 0 new.0) (held read.profiles old.0 old.1 old.2) (held read'.profiles new.0 new.1 new.2) same none.0 none.1
+        let told = profile_told w b.all d.decided.policies.now limit ls old.0 old.1 (Confined 0 new.0) name there old.3 quiet.small in
+        let alike = quiet_at unclean (Confined 0 old.0) (Confined 0 new.0) (held read.profiles old.0 old.1 old.2) (held read'.profiles new.0 new.1 new.2) same told none.0 none.1
         (λ f c own at. quiet.lines f c own (ap (called_at d.decided.policies.now) at ∙ (ap name_of there ∙ ap Some old.3))) r askable counts in
         let first : f' old.0 ≡ m = pinned_is (length read.profiles) (length whole.profiles) place old.0 (slice_get_within read.profiles old.0 old.1 old.2) ∙ old.4 in
         let second : g' new.0 ≡ n = pinned_is (length read'.profiles) (length whole'.profiles) place' new.0 (slice_get_within read'.profiles new.0 new.1 new.2) ∙ new.4 in
@@ -426,9 +453,9 @@ module _ (stand : NamesStand) (each : EachDecides) (closed : ClosedLabels) where
         held ps k x e = ap (λ (o : Option Profile). is_some o) e
 
 pub profiles_hold : NamesStand → EachDecides → ClosedLabels → LinesTellEntries → ProfilesHold
-profiles_hold stand each closed lines unclean w d e xs read whole read' whole' place place' b name quiet m n p q got called got' called' r askable counts =
-    profile_quiet stand each closed lines w d e xs read whole read' whole' place place' b unclean name quiet m n p q got called got' called' r askable counts
+profiles_hold stand each closed lines unclean w limit d e xs ls read whole read' whole' place place' b name quiet m n p q got called got' called' r askable counts =
+    profile_quiet stand each closed lines w limit d e xs ls read whole read' whole' place place' b unclean name quiet m n p q got called got' called' r askable counts
 
 pub free_hold : NamesStand → EachDecides → ClosedLabels → LinesTellEntries → FreeHold
-free_hold stand each closed lines unclean w d e xs read whole read' whole' place place' b quiet r askable counts =
-    free_quiet stand each closed lines w d e xs read whole read' whole' place place' b unclean quiet r askable counts
+free_hold stand each closed lines unclean w limit d e xs ls read whole read' whole' place place' b quiet r askable counts =
+    free_quiet stand each closed lines w limit d e xs ls read whole read' whole' place place' b unclean quiet r askable counts

@@ -1,5 +1,5 @@
 -- What a stable sort makes of a list is the list in the order of its test, and no other.
-use Rattle.std.proofs.Common.{◌≡◌, ℕ, suc, ◌+◌, Bool, true, false, not, ◌&&◌, cond, List, [], ◌∷◌, length, get_or, drop, filter}
+use Rattle.std.proofs.Common.{◌≡◌, ℕ, suc, ◌+◌, Bool, true, false, not, ◌&&◌, cond, List, [], ◌∷◌, length, get_or, drop, filter, map}
 use Rattle.std.proofs.Common.{Ordering, is_lt, IsSortedBy, refl, sym, ap, subst, ◌∙◌, true≢false, arith}
 use Rattle.std.specs.Cmp.{IsStrictWeakOrder, IsTotalOrder, first_so, second_so}
 use Rattle.std.specs.Fn.{Called, ComparesAs}
@@ -172,3 +172,21 @@ sorted_by_cmp {X} {g = g} {f = f} cmp total xs ys up stable called =
     let compares : ComparesAs g lt f =
     always_returns_same g (λ a r. is_lt r ≡ lt a.0.now a.1.0.now) f (λ a r f' k. (ap is_lt (called a r f' k).0, (called a r f' k).1)) in
     stably_sorted lt weak xs ys (up lt weak compares) (stable lt weak compares)
+
+-- an item put into a list, and what another list is made of it
+map_put_in : {X Y : Type 0} (g : X → Y) (before : Y → Y → Bool) (x : X) (ys : List X)
+    → map g (put_in (λ (a b : X). before (g a) (g b)) x ys) ≡ put_in before (g x) (map g ys)
+map_put_in g before x [] = refl
+map_put_in {X} {Y} g before x (y ∷ ys) = at (before (g y) (g x)) (map_put_in g before x ys)
+  where
+    at : (b : Bool) → map g (put_in (λ (a b : X). before (g a) (g b)) x ys) ≡ put_in before (g x) (map g ys)
+        → map g (cond b (y ∷ put_in (λ (a b : X). before (g a) (g b)) x ys) (x ∷ y ∷ ys)) ≡ cond b (g y ∷ put_in before (g x) (map g ys)) (g x ∷ g y ∷ map g ys)
+    at true rest = ap (λ (l : List Y). g y ∷ l) rest
+    at false rest = refl
+
+-- items in the order of a test of what is made of them make just that in the order of the test
+pub map_sorted : {X Y : Type 0} (g : X → Y) (before : Y → Y → Bool) (xs : List X)
+    → map g (sorted_by (λ (a b : X). before (g a) (g b)) xs) ≡ sorted_by before (map g xs)
+map_sorted g before [] = refl
+map_sorted {X} {Y} g before (x ∷ xs) =
+    map_put_in g before x (sorted_by (λ (a b : X). before (g a) (g b)) xs) ∙ ap (put_in before (g x)) (map_sorted g before xs)

@@ -4,6 +4,7 @@ use Rattle.std.proofs.Common.{true, false, true≢false, not, ◌+◌, ◌≤◌
 use Rattle.std.proofs.Common.{refl, sym, ap, ◌∙◌, subst, arith, append_assoc}
 use Rattle.std.specs.Prelude.{⊤, ◌==◌, ◌&&◌, ◌||◌, ◌-◌, ◌↔◌, Contains, position, bit_and, if◌then◌else◌}
 use Rattle.std.specs.Bool.{beq}
+use Rattle.std.specs.Ordering.{is_lt}
 use Rattle.std.specs.Int.{bit_at}
 use Rattle.std.specs.List.{list_any}
 use Rattle.std.specs.Str.{bytes_eq}
@@ -30,8 +31,9 @@ use Rattle.aa_diff.specs.declared.finding.Finding.{Finding}
 use Rattle.aa_diff.specs.Signs.{sign_of, sign_number}
 use Rattle.aa_diff.specs.Changes.{is_same}
 use Rattle.aa_diff.specs.Findings.{who_number, kind_number, is_of_class, is_alike, is_profile, finding_of}
-use Rattle.aa_diff.specs.Gathered.{is_single, is_mixed, is_part, is_as_well, covers, recent, hides, is_cleaner, with_more, counted_up, changed_at, added_at, added, gathered}
+use Rattle.aa_diff.specs.Gathered.{is_single, is_mixed, is_part, is_as_well, covers, recent, hides, is_preferred, with_more, counted_up, changed_at, added_at, added, gathered}
 use Rattle.aa_diff.specs.Gathered.{gathered_next}
+use Rattle.aa_diff.specs.Witness.{shortness_cmp}
 use Rattle.aa_diff.specs.Joined.{is_one_object, joins, both_of, joined_at, joined, joined_all}
 use Rattle.aa_diff.specs.Named.{is_named}
 use Rattle.aa_diff.specs.Report.{called, is_wanted, wanted_of, shown_of, lines_of}
@@ -44,7 +46,7 @@ abbrev pub Has : {X : Type 0} → (X → Type 0) → List X → Type 0
 Has P [] = ⊥
 Has P (x ∷ xs) = P x ⊎ Has P xs
 
-has_front : {X : Type 0} (P : X → Type 0) (xs ys : List X) → Has P xs → Has P (xs ++ ys)
+pub has_front : {X : Type 0} (P : X → Type 0) (xs ys : List X) → Has P xs → Has P (xs ++ ys)
 has_front P [] ys h = absurd h
 has_front P (x ∷ xs) ys (inl p) = inl p
 has_front P (x ∷ xs) ys (inr h) = inr (has_front P xs ys h)
@@ -97,12 +99,12 @@ each_kept P change keep (f ∷ fs) (suc n) all = (all.0, each_kept P change keep
 
 -- ---- the same by numbers
 
-has_contained : {X : Type 0} (P : X → Type 0) (xs : List X) (x : X) → Contains xs x → P x → Has P xs
+pub has_contained : {X : Type 0} (P : X → Type 0) (xs : List X) (x : X) → Contains xs x → P x → Has P xs
 has_contained P [] x (k, lt, is) p = absurd (omega (arith, lt))
 has_contained P (y ∷ ys) x (zero, lt, is) p = inl (subst P (sym is) p)
 has_contained P (y ∷ ys) x (suc k, lt, is) p = inr (has_contained P ys x (k, omega (arith, lt), is) p)
 
-contained : {X : Type 0} (P : X → Type 0) (xs : List X) → Has P xs → (x : X) × Contains xs x × P x
+pub contained : {X : Type 0} (P : X → Type 0) (xs : List X) → Has P xs → (x : X) × Contains xs x × P x
 contained P [] h = absurd h
 contained P (x ∷ xs) (inl p) = (x, (zero, omega arith, refl), p)
 contained P (x ∷ xs) (inr h) = let found = contained P xs h in (found.0, (suc found.1.0, omega (arith, found.1.1), found.1.2), found.2)
@@ -204,20 +206,26 @@ unclean f = is_at_unclean_path f.request
 abbrev one_more : Finding → ℕ
 one_more f = min (f.more + 1) 18446744073709551615
 
-not_true : (b : Bool) → not b ≡ true → b ≡ true → ⊥
-not_true true e is = true≢false (sym e)
-not_true false e is = true≢false (sym is)
+-- the one that is preferred is at an unclean path only where the other is
+preferred_clean : (known one shorter : Bool) → ((known && not one) || (beq known one && shorter)) ≡ true → one ≡ true → known ≡ true
+preferred_clean true one shorter e is = refl
+preferred_clean false true shorter e is = absurd (true≢false (sym e))
+preferred_clean false false shorter e is = absurd (true≢false (sym is))
 
-not_and : (a b : Bool) → (a && not b) ≡ false → a ≡ true → b ≡ true
-not_and true true e is = refl
-not_and true false e is = absurd (true≢false e)
-not_and false b e is = absurd (true≢false (sym is))
+-- and the one that isn't left for the other too
+stays_clean : (known one shorter : Bool) → ((known && not one) || (beq known one && shorter)) ≡ false → known ≡ true → one ≡ true
+stays_clean true true shorter e is = refl
+stays_clean true false shorter e is = absurd (true≢false e)
+stays_clean false one shorter e is = absurd (true≢false (sym is))
+
+abbrev shorter : Finding → Finding → Bool
+shorter g f = is_lt (shortness_cmp g.request f.request)
 
 -- what stands for two findings of one line tells of the latter
-counted_tells_at : (b : Bool) (f g : Finding) → is_cleaner g f ≡ b → AreOne f g → TellsOf (with_more (one_more f) (if b then g else f)) g
-counted_tells_at true f g cleaner same =
+counted_tells_at : (b : Bool) (f g : Finding) → is_preferred g f ≡ b → AreOne f g → TellsOf (with_more (one_more f) (if b then g else f)) g
+counted_tells_at true f g preferred same =
     record { label = refl; sign = refl; kind = refl; change = refl; rules = refl; letters = λ k. omega arith; who = OfSame refl; clean = λ e. e }
-counted_tells_at false f g cleaner same = record {
+counted_tells_at false f g preferred same = record {
   label = same.label;
   sign = same.sign;
   kind = same.kind;
@@ -225,15 +233,15 @@ counted_tells_at false f g cleaner same = record {
   rules = same.rules;
   letters = λ k. rw same.letters (omega arith);
   who = OfSame same.who;
-  clean = λ e. not_and (unclean f) (unclean g) cleaner e;
+  clean = λ e. stays_clean (unclean f) (unclean g) (shorter g f) preferred e;
 }
 
 alike_tells : (f g : Finding) → is_alike f g ≡ true → TellsOf (counted_up g f) g
-alike_tells f g e = counted_tells_at (is_cleaner g f) f g refl (alike_one f g e)
+alike_tells f g e = counted_tells_at (is_preferred g f) f g refl (alike_one f g e)
 
 -- and of what the former tells of
-counted_keeps_at : (b : Bool) (f g h : Finding) → is_cleaner g f ≡ b → AreOne f g → TellsOf f h → TellsOf (with_more (one_more f) (if b then g else f)) h
-counted_keeps_at true f g h cleaner same t = record {
+counted_keeps_at : (b : Bool) (f g h : Finding) → is_preferred g f ≡ b → AreOne f g → TellsOf f h → TellsOf (with_more (one_more f) (if b then g else f)) h
+counted_keeps_at true f g h preferred same t = record {
   label = sym same.label ∙ t.label;
   sign = sym same.sign ∙ t.sign;
   kind = sym same.kind ∙ t.kind;
@@ -241,13 +249,13 @@ counted_keeps_at true f g h cleaner same t = record {
   rules = sym same.rules ∙ t.rules;
   letters = λ k. subst (λ (n : ℕ). bit_at h.letters.0 k ≤ bit_at n k) same.letters (t.letters k);
   who = subst (λ (w : Who). HoldsOf w h.who) same.who t.who;
-  clean = λ e. absurd (not_true (unclean g) (and_parts (unclean f) (not (unclean g)) cleaner).1 e);
+  clean = λ e. t.clean (preferred_clean (unclean f) (unclean g) (shorter g f) preferred e);
 }
-counted_keeps_at false f g h cleaner same t =
+counted_keeps_at false f g h preferred same t =
     record { label = t.label; sign = t.sign; kind = t.kind; change = t.change; rules = t.rules; letters = t.letters; who = t.who; clean = t.clean }
 
 alike_keeps : (f g h : Finding) → is_alike f g ≡ true → TellsOf f h → TellsOf (counted_up g f) h
-alike_keeps f g h e t = counted_keeps_at (is_cleaner g f) f g h refl (alike_one f g e) t
+alike_keeps f g h e t = counted_keeps_at (is_preferred g f) f g h refl (alike_one f g e) t
 
 abbrev Tellers : Finding → List Finding → Type 0
 Tellers g fs = Has (λ (f : Finding). TellsOf f g) fs
@@ -436,7 +444,7 @@ module _ (P : Finding → Type 0) (same : (f g : Finding) → bare f ≡ bare g 
 
   added_each_at : (o : Option ℕ) (fs : List Finding) (f : Finding) → Each P fs → P f → Each P (added_at o fs f)
   added_each_at None fs f all p = each_more P fs f all p
-  added_each_at (Some n) fs f all p = each_kept P (counted_up f) (λ x q. counted_each_at (is_cleaner f x) (one_more x) x f q p) fs n all
+  added_each_at (Some n) fs f all p = each_kept P (counted_up f) (λ x q. counted_each_at (is_preferred f x) (one_more x) x f q p) fs n all
 
   joined_each_at : (o : Option ℕ) (fs : List Finding) (f : Finding) → Each P fs → P f → Each P (joined_at o fs f)
   joined_each_at None fs f all p = each_more P fs f all p
@@ -524,13 +532,13 @@ module _ (d e : Decided) (xs : List Difference) where
       (gathered_each (IsOfEntry d e xs) of_entry d e [] xs [] tt
       (each_of (λ (x : Difference). IsOfEntry d e xs (finding_of d e x)) xs (λ x c. (x, c, refl)))))
 
-  are_lines : AreLinesOf d e xs (lines_of d e xs)
+  pub are_lines : AreLinesOf d e xs (lines_of d e xs)
   are_lines = record { told = told; entries = λ f c. each_contained (IsOfEntry d e xs) (lines_of d e xs) f all_of_entries c }
 
 -- ---- gains
 
 -- what tells of a gain is one
-gain_by : (s t : Sign) → is_as_well s t ≡ true → t ≡ Gain → s ≡ Gain
+pub gain_by : (s t : Sign) → is_as_well s t ≡ true → t ≡ Gain → s ≡ Gain
 gain_by Gain t is gain = refl
 gain_by Loss t is gain = absurd cc
 gain_by Other t is gain = absurd cc
@@ -545,7 +553,7 @@ wanted_has : (b : Bool) (P : Finding → Type 0) (f : Finding) → b ≡ true �
 wanted_has true P f is p = inl p
 wanted_has false P f is p = absurd cc
 
-has_shown : (ps : List Policy) (w : Wanted) (P : Finding → Type 0) → ((f : Finding) → P f → is_wanted ps w f ≡ true)
+pub has_shown : (ps : List Policy) (w : Wanted) (P : Finding → Type 0) → ((f : Finding) → P f → is_wanted ps w f ≡ true)
     → (fs : List Finding) → Has P fs → Has P (shown_of ps w fs)
 has_shown ps w P wants [] h = absurd h
 has_shown ps w P wants (f ∷ fs) (inl p) = has_front P (wanted_of ps w f) (shown_of ps w fs) (wanted_has (is_wanted ps w f) P f (wants f p) p)
@@ -555,14 +563,14 @@ shown_has_at : (b : Bool) (P : Finding → Type 0) (f : Finding) (rest : List Fi
 shown_has_at true P f rest h = h
 shown_has_at false P f rest h = inr h
 
-shown_has : (ps : List Policy) (w : Wanted) (P : Finding → Type 0) (fs : List Finding) → Has P (shown_of ps w fs) → Has P fs
+pub shown_has : (ps : List Policy) (w : Wanted) (P : Finding → Type 0) (fs : List Finding) → Has P (shown_of ps w fs) → Has P fs
 shown_has ps w P [] h = absurd h
 shown_has ps w P (f ∷ fs) h =
     ⊎_elim (λ (p : P f). inl p) (λ (later : Has P (shown_of ps w fs)). inr (shown_has ps w P fs later))
     (shown_has_at (is_wanted ps w f) P f (shown_of ps w fs) h)
 
 -- a gain of any profile is shown
-gain_wanted : (ps : List Policy) (w : Wanted) → texts w.profiles.now ≡ [] → (f : Finding) → f.sign ≡ Gain → is_wanted ps w f ≡ true
+pub gain_wanted : (ps : List Policy) (w : Wanted) → texts w.profiles.now ≡ [] → (f : Finding) → f.sign ≡ Gain → is_wanted ps w f ≡ true
 gain_wanted ps w none f gain =
     and_from _ _ (rw gain (or_right (not w.gains))) (ap (λ (names : List (List ℕ)). is_named names (called ps f)) none)
 

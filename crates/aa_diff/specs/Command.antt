@@ -1,6 +1,6 @@
 -- What `diff` prints.
 -- Source: own.
-use Rattle.std.specs.Prelude.{ℕ, ◌≡◌, ◌↔◌, ◌+◌, ◌==◌, ◌&&◌, List, [], ◌++◌, Contains, length, Bool, not, codes, decimal, Option, Some, None, option_map, Err, Vec, if◌then◌else◌}
+use Rattle.std.specs.Prelude.{ℕ, ◌≡◌, ◌↔◌, ◌==◌, ◌&&◌, List, [], ◌++◌, Contains, length, flat_map, Bool, not, codes, Option, Some, None, option_map, Err, Vec, if◌then◌else◌}
 use Rattle.std.specs.Borrow.{Bor}
 use Rattle.std.specs.List.{list_any}
 use Rattle.std.specs.declared.alloc.Global.{Global}
@@ -10,11 +10,10 @@ use Rattle.aa_files.specs.FilesData.{IsMain, IsMainText}
 use Rattle.aa_report.specs.Entries.{entries_in}
 use Rattle.aa_report.specs.Markdown.{markdown_of}
 use Rattle.aa_model.specs.declared.policy.Policy.{Policy}
-use Rattle.aa_model.specs.declared.label.Label.{Label}
-use Rattle.aa_representatives.specs.Apart.{HaveManyPatternsAnd}
 use Rattle.aa_differences.specs.declared.at_labels.Difference.{Difference}
+use Rattle.aa_differences.specs.declared.comparison.UntoldLabels.{UntoldLabels}
 use Rattle.aa_differences.specs.Same.{SamePolicies}
-use Rattle.aa_differences.specs.Differences.{IsDifference, ListAll, HavePlacesClean}
+use Rattle.aa_differences.specs.Differences.{IsDifference, IsUntold, ListAllBut}
 use Rattle.aa_load.specs.UnitPolicy.{limit_of}
 use Rattle.aa_command.specs.declared.decided.Decided.{Decided}
 use Rattle.aa_command.specs.Setting.{Setting}
@@ -25,7 +24,6 @@ use Rattle.aa_diff.specs.declared.options.DiffOptions.{DiffOptions}
 use Rattle.aa_diff.specs.declared.options.DiffForm.{DiffForm}
 use Rattle.aa_diff.specs.declared.options.DiffForm.TheVariants.{Text, Json, Html, Markdown}
 use Rattle.aa_diff.specs.declared.finding.Finding.{Finding}
-use Rattle.aa_diff.specs.Changes.{label_word}
 use Rattle.aa_passed_over.specs.Apart.{ApartRule, all_apart}
 use Rattle.aa_diff.specs.Findings.{does_count}
 use Rattle.aa_diff.specs.Unclean.{all_told_unclean}
@@ -38,15 +36,8 @@ use Rattle.aa_diff.specs.Html.{html_report}
 use Rattle.aa_skipped.specs.declared.skipped.Skipped.{Skipped}
 use Rattle.aa_diff.specs.declared.part.Part.{Part}
 use Rattle.aa_diff.specs.Untold.{AllUntold, all_untold, decided_of}
+use Rattle.aa_diff.specs.UntoldShown.{large_fault}
 use Rattle.aa_diff.specs.Sides.{noted, IsSide}
-
--- the patterns at a label need too many states
-abbrev pub states_text : List Policy → Label → ℕ → List ℕ
-states_text ps l limit = codes "error: at " ++ label_word ps l ++ codes " the patterns of OLD and NEW need more than " ++ decimal limit ++ codes " states together; --states allows more\n"
-
--- there are too many patterns at a label
-abbrev pub patterns_text : List Policy → Label → List ℕ
-patterns_text ps l = codes "error: at " ++ label_word ps l ++ codes " OLD and NEW have more than 65535 patterns together\n"
 
 -- findings, rules that are passed over, and what isn't told, in a form
 abbrev pub findings_in : DiffForm → DiffOptions → List Policy → List Finding → List ApartRule → AllUntold → List ℕ
@@ -55,42 +46,47 @@ findings_in Json o ps fs rs a = json_report o ps fs rs a
 findings_in Html o ps fs rs a = html_report o ps fs rs a
 findings_in Markdown o ps fs rs a = markdown_of (report_text ps fs rs a)
 
--- 4 where a finding counts or there are such rules, else 5 where something isn't told
-abbrev pub status_of : Bool → ℕ → ℕ → ℕ → ℕ
-status_of counts rules undecided apart = if not counts && rules == 0 then (if undecided == 0 && apart == 0 then 0 else 5) else 4
+-- 4 where a finding counts or there are such rules, else 5 where skipped files could tell something
+abbrev pub status_by : Bool → ℕ → ℕ → ℕ → ℕ
+status_by counts rules undecided apart = if not counts && rules == 0 then (if undecided == 0 && apart == 0 then 0 else 5) else 4
 
--- the same with its status, and which accepted findings there aren't
+-- 1 where there are labels whose patterns are too many, before those
+abbrev pub status_of : ℕ → Bool → ℕ → ℕ → ℕ → ℕ
+status_of too_large counts rules undecided apart = if too_large == 0 then status_by counts rules undecided apart else 1
+
+-- the same with its status, which accepted findings there aren't, and whose patterns are too many
 abbrev pub reported : DiffOptions → List Policy → List Finding → List ApartRule → List ℕ → AllUntold → Printed
 reported o ps fs rs gone a = record {
   answers = findings_in o.form o ps fs rs a;
-  faults = gone;
+  faults = flat_map large_fault a.too_large ++ gone;
   refusal = [];
-  status = status_of (list_any does_count fs) (length rs) (length a.undecided) (length a.not_compared);
+  status = status_of (length a.too_large) (list_any does_count fs) (length rs) (length a.undecided) (length a.not_compared);
 }
 
 -- those of all findings and of all rules that are passed over which are shown and not accepted, and what isn't told
 abbrev pub reported_but : DiffOptions → List (List ℕ) → List Policy → List Finding → List ApartRule → AllUntold → Printed
-reported_but o accepted ps fs rs a = reported o ps (in_order (findings_left ps o.wanted accepted fs)) (rules_left ps o.wanted accepted rs) (gone_of ps accepted fs rs) a
+reported_but o accepted ps fs rs a = reported o ps (in_order ps (findings_left ps o.wanted accepted fs)) (rules_left ps o.wanted accepted rs) (gone_of ps accepted fs rs) a
 
 -- so the lines of differences, those at unclean paths alone as such, and the rules that are passed over and that one policy alone has
 abbrev pub printed_lines : DiffOptions → Decided → Decided → List Difference → AllUntold → Printed
 printed_lines o d e xs a = reported_but o (texts o.accepted.now) d.policies.now (all_told_unclean o.unclean (lines_of d e xs)) (all_apart d e) a
 
--- so of those differences that no skipped file could decide, and with all that isn't told
-abbrev pub compared : DiffOptions → Part → Part → List Difference → Printed
-compared o d e xs = printed_lines o d.decided e.decided (decided_of d e xs) (all_untold o.wanted d e)
+-- so of those differences that no skipped file could decide, and with all that isn't told, as at these labels
+abbrev pub compared : DiffOptions → ℕ → Part → Part → List Difference → List UntoldLabels → Printed
+compared o limit d e xs us = printed_lines o d.decided e.decided (decided_of d e xs) (all_untold o.wanted limit d e us)
 
--- What is printed of two policies: each difference listed is one, each request that is answered differently is listed by one of its
--- kind with its answers, none is listed exactly where the policies answer alike, and what is printed in the form that is wanted is that of those of
--- this list that no skipped file could decide and that aren't accepted, of the rules that are passed over, and of what isn't told.
-pub data AreCompared (o : DiffOptions) (states : ℕ) (d e : Part) (out : Printed) : Type 0 where
-  Listed : (xs : List Difference) → ((x : Difference) → Contains xs x → IsDifference d.decided.policies.now e.decided.policies.now x)
-      → ListAll d.decided.policies.now e.decided.policies.now xs
-      → ((xs ≡ []) ↔ SamePolicies d.decided.policies.now e.decided.policies.now) → out ≡ compared o d e xs → AreCompared o states d e out
-  ManyPatterns : (l m : Label) → HaveManyPatternsAnd d.decided.policies.now l e.decided.policies.now m → out ≡ faults_alone (patterns_text d.decided.policies.now l) 1
-      → AreCompared o states d e out
-  ManyStates : (l m : Label) → HavePlacesClean d.decided.policies.now l e.decided.policies.now m (limit_of states + 1)
-      → out ≡ faults_alone (states_text d.decided.policies.now l (limit_of states)) 1 → AreCompared o states d e out
+-- What is printed of two policies: each difference listed is one; each request that is answered differently is listed by one of its
+-- kind with its answers, but at labels whose patterns are too many or need more states than there may be, and where there is no such label, none is
+-- listed exactly where the policies answer alike; and what is printed in the form that is wanted is that of those of this list that no skipped
+-- file could decide and that aren't accepted, of the rules that are passed over, and of what isn't told, such labels too.
+pub record AreCompared (o : DiffOptions) (states : ℕ) (d e : Part) (out : Printed) : Type 0 where
+  pub differences : List Difference
+  pub untold : List UntoldLabels
+  pub each : (x : Difference) → Contains differences x → IsDifference d.decided.policies.now e.decided.policies.now x
+  pub large : (u : UntoldLabels) → Contains untold u → IsUntold d.decided.policies.now e.decided.policies.now (limit_of states) u
+  pub all : ListAllBut d.decided.policies.now e.decided.policies.now untold differences
+  pub none : untold ≡ [] → (differences ≡ []) ↔ SamePolicies d.decided.policies.now e.decided.policies.now
+  pub is : out ≡ compared o (limit_of states) d e differences untold
 
 -- what is printed of two policies: that, or that nobody is called by one of the names that are wanted
 pub data IsCompared (o : DiffOptions) (states : ℕ) (d e : Part) (out : Printed) : Type 0 where

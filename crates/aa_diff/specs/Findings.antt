@@ -1,6 +1,6 @@
 -- Findings: requests that are answered differently in the same way, for the same reason.
 -- Source: own.
-use Rattle.std.specs.Prelude.{ℕ, List, [], ◌==◌, ◌&&◌, not, Bool, true, false, codes, if◌then◌else◌}
+use Rattle.std.specs.Prelude.{ℕ, List, [], ◌++◌, ◌==◌, ◌&&◌, not, Bool, true, false, codes, is_some, if◌then◌else◌}
 use Rattle.std.specs.Str.{bytes_eq}
 use Rattle.aa_base.specs.declared.perms.Perms.{Perms}
 use Rattle.aa_model.specs.declared.policy.Policy.{Policy}
@@ -17,6 +17,7 @@ use Rattle.aa_diff.specs.Signs.{is_confined, sign_number, sign_of}
 use Rattle.aa_diff.specs.Changes.{is_same, change_text}
 use Rattle.aa_diff.specs.declared.rules.Rule.{Rule}
 use Rattle.aa_diff.specs.Rules.{own_at, told_rules, rules_text}
+use Rattle.aa_diff.specs.Heads.{heads}
 
 -- tells apart whose objects there are
 abbrev pub who_number : Who → ℕ
@@ -82,13 +83,17 @@ is_minor sign r = sign_number sign == 2 && is_link r
 abbrev pub told_change : List Policy → List Policy → Bool → Difference → List ℕ
 told_change ps qs minor x = if minor then codes "reported otherwise" else change_text ps qs x
 
--- the rules of the old policy that are told
-abbrev pub old_rules : Decided → Decided → Bool → Difference → List Rule
-old_rules d e minor x = told_rules minor d (own_at d.policies.now e.policies.now x.from x.to) x.from x.request
+-- what was reported is no more
+abbrev pub is_unreported : Difference → Bool
+is_unreported x = is_some x.old.note && not (is_some x.new.note)
 
--- the rules of the new policy that are told
+-- the rules of the old policy that are told, and behind them the head whose attachment accounts for it
+abbrev pub old_rules : Decided → Decided → Bool → Difference → List Rule
+old_rules d e minor x = told_rules minor d (own_at d.policies.now e.policies.now x.from x.to) x.from x.request ++ heads d e.policies.now x.from x.to x.request
+
+-- so of the new policy
 abbrev pub new_rules : Decided → Decided → Bool → Difference → List Rule
-new_rules d e minor x = told_rules minor e (own_at e.policies.now d.policies.now x.to x.from) x.to x.request
+new_rules d e minor x = told_rules minor e (own_at e.policies.now d.policies.now x.to x.from) x.to x.request ++ heads e d.policies.now x.to x.from x.request
 
 -- the finding that a difference is by itself, with that sign
 abbrev pub finding_with : Decided → Decided → Sign → Difference → Finding
@@ -104,6 +109,7 @@ finding_with d e sign x = record {
   old_rules = old_rules d e (is_minor sign x.request) x;
   new_rules = new_rules d e (is_minor sign x.request) x;
   more = 0;
+  unreported = not (is_minor sign x.request) && is_unreported x;
   unclean = false;
 }
 

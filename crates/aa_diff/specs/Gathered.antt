@@ -3,6 +3,7 @@
 use Rattle.std.specs.Prelude.{ℕ, zero, suc, List, [], ◌∷◌, ◌++◌, ◌+◌, ◌-◌, ◌==◌, ◌&&◌, ◌||◌, not, min, Bool, false, length, drop, bit_and, if◌then◌else◌, Option, Some, None, position}
 use Rattle.std.specs.Bool.{beq}
 use Rattle.std.specs.List.{list_any}
+use Rattle.std.specs.Ordering.{is_lt}
 use Rattle.std.specs.Str.{bytes_eq}
 use Rattle.aa_model.specs.declared.policy.Policy.{Policy}
 use Rattle.aa_model.specs.declared.request.Request.{Request}
@@ -16,6 +17,7 @@ use Rattle.aa_diff.specs.declared.finding.Finding.{Finding}
 use Rattle.aa_diff.specs.Signs.{sign_number, sign_of}
 use Rattle.aa_diff.specs.Changes.{is_same}
 use Rattle.aa_diff.specs.Findings.{is_alike, finding_of}
+use Rattle.aa_diff.specs.Witness.{shortness_cmp}
 
 -- one permission of those that can be asked for
 abbrev pub is_single : ℕ → Bool
@@ -55,9 +57,17 @@ hides ps qs before y = is_mixed y.request && list_any (λ x. covers ps qs x y) (
 abbrev pub is_cleaner : Finding → Finding → Bool
 is_cleaner g f = is_at_unclean_path f.request && not (is_at_unclean_path g.request)
 
--- of two findings of one line the one that stands for both: the latter, unless its request alone is at an unclean path
+-- of two findings of one line both requests are at unclean paths or neither, and the former's is shorter, or as long and first in byte order
+abbrev pub is_shorter : Finding → Finding → Bool
+is_shorter g f = beq (is_at_unclean_path f.request) (is_at_unclean_path g.request) && is_lt (shortness_cmp g.request f.request)
+
+-- the former stands for both then, and where the latter's request alone is at an unclean path
+abbrev pub is_preferred : Finding → Finding → Bool
+is_preferred g f = is_cleaner g f || is_shorter g f
+
+-- of two findings of one line the one that stands for both
 abbrev pub standing : Finding → Finding → Finding
-standing g f = if is_cleaner g f then g else f
+standing g f = if is_preferred g f then g else f
 
 -- a finding of which there are so many besides
 abbrev pub with_more : ℕ → Finding → Finding

@@ -22,10 +22,10 @@ use Rattle.aa_diff.specs.declared.signs.Sign.TheVariants.{Gain, Loss, Other}
 use Rattle.aa_diff.specs.declared.finding.Finding.{Finding}
 use Rattle.aa_diff.specs.declared.rules.Rule.{Rule}
 use Rattle.aa_diff.specs.Findings.{is_profile}
-use Rattle.aa_diff.specs.Untold.{Untold, AllUntold}
-use Rattle.aa_diff.specs.UntoldShown.{untold_words, skipped_text}
+use Rattle.aa_diff.specs.Untold.{Untold, Large, AllUntold}
+use Rattle.aa_diff.specs.UntoldShown.{untold_words, large_words, skipped_text}
 use Rattle.aa_diff.specs.Lines.{Told, Found, PassedOver, label_of, is_of_profile, lines_with}
-use Rattle.aa_diff.specs.Printed.{asked_of, others_text, only_text, more_text, gone_text, name_asked, is_free, is_behind, side_text}
+use Rattle.aa_diff.specs.Printed.{asked_text, only_text, more_text, gone_text, name_asked, is_free, is_behind, side_text}
 use Rattle.aa_diff.specs.Report.{profile_counts, line_counts, rules_count}
 
 -- what the line of a finding is marked with
@@ -47,9 +47,9 @@ html_rule m r = rule_line m r.path r.place r.text
 unfoldable pub html_accounting : Finding → List ℕ
 html_accounting f = list_start ++ flat_map (html_rule marked.Old) f.old_rules ++ flat_map (html_rule marked.New) f.new_rules ++ list_end
 
--- the mark of a line, that it is about unclean paths alone, its first request by all its permissions, and whose objects these are
+-- the mark of a line, that it is about unclean paths alone, and its first request
 unfoldable pub html_asked : Finding → List ℕ
-html_asked f = line_start (mark_of f.sign) ++ only_text f.unclean ++ code_text (word_text (asked_of f)) ++ others_text f.who
+html_asked f = line_start (mark_of f.sign) ++ only_text f.unclean ++ code_text (asked_text f)
 
 -- how it was answered and is, and how many there are besides
 unfoldable pub html_change : Finding → List ℕ
@@ -155,9 +155,14 @@ html_counts ps out ls fs rules = codes "<p>" ++ profile_counts ps out ls fs ++ l
 unfoldable pub html_untold : List ℕ → Untold → List ℕ
 html_untold words u = paragraph (untold_words words u)
 
+-- who isn't compared, and why, as a paragraph
+unfoldable pub html_large : Large → List ℕ
+html_large x = paragraph (large_words x)
+
 -- at which labels something is undecided, and which profiles aren't compared
 abbrev pub html_all_untold : AllUntold → List ℕ
-html_all_untold a = flat_map (html_untold (codes " undecided: ")) a.undecided ++ flat_map (html_untold (codes " not compared: ")) a.not_compared
+html_all_untold a =
+    flat_map (html_untold (codes " undecided: ")) a.undecided ++ flat_map (html_untold (codes " not compared: ")) a.not_compared ++ flat_map html_large a.too_large
 
 -- how many files are skipped, as a paragraph
 unfoldable pub skipped_paragraph : AllUntold → List ℕ
@@ -178,4 +183,4 @@ html_sections ps ls fs = html_confined ps None ls ++ html_profiles fs ++ html_fr
 -- the page: of the same findings, rules and doubts as the text
 abbrev pub html_report : DiffOptions → List Policy → List Finding → List ApartRule → AllUntold → List ℕ
 html_report o ps fs rs a =
-    html_head o ++ html_known ps (lines_with fs rs) fs (length rs) a ++ html_sections ps (lines_with fs rs) fs ++ page_end
+    html_head o ++ html_known ps (lines_with ps fs rs) fs (length rs) a ++ html_sections ps (lines_with ps fs rs) fs ++ page_end

@@ -1,6 +1,6 @@
 -- The report of the differences of two policies, as one JSON object.
 -- Source: own.
-use Rattle.std.specs.Prelude.{ℕ, List, [], ◌++◌, ◌&&◌, map, length, codes, decimal, count_by, Bool, true, false, not, Some, None, if◌then◌else◌, Vec}
+use Rattle.std.specs.Prelude.{ℕ, List, [], ◌++◌, ◌&&◌, map, length, codes, decimal, count_by, Bool, not, Some, None, if◌then◌else◌, Vec}
 use Rattle.std.specs.List.{filter, list_any}
 use Rattle.std.specs.declared.alloc.Global.{Global}
 use Rattle.aa_model.specs.declared.policy.Policy.{Policy}
@@ -8,19 +8,16 @@ use Rattle.aa_model.specs.declared.label.Label.{Label}
 use Rattle.aa_model.specs.declared.label.Label.TheVariants.{Confined}
 use Rattle.aa_compile.specs.Labels.{label_name}
 use Rattle.aa_text.specs.Jsons.{json_bytes, json_place, key_text, bool_text, member_text, list_text}
-use Rattle.aa_notation.specs.Written.{word_text}
 use Rattle.aa_diff.specs.declared.options.DiffOptions.{DiffOptions}
 use Rattle.aa_diff.specs.declared.signs.Sign.{Sign}
 use Rattle.aa_diff.specs.declared.signs.Sign.TheVariants.{Gain, Loss, Other}
-use Rattle.aa_diff.specs.declared.finding.Who.{Who}
-use Rattle.aa_diff.specs.declared.finding.Who.TheVariants.{Others}
 use Rattle.aa_diff.specs.declared.finding.Finding.{Finding}
 use Rattle.aa_diff.specs.Signs.{is_confined}
 use Rattle.aa_diff.specs.declared.rules.Rule.{Rule}
 use Rattle.aa_diff.specs.Findings.{is_profile, is_uncounted, does_count, is_counted}
 use Rattle.aa_passed_over.specs.Apart.{ApartRule}
 use Rattle.aa_diff.specs.Lines.{Told, lines_with}
-use Rattle.aa_diff.specs.Printed.{asked_of, sign_text, side_text, name_asked}
+use Rattle.aa_diff.specs.Printed.{asked_text, sign_text, side_text, name_asked}
 use Rattle.aa_diff.specs.Untold.{AllUntold}
 use Rattle.aa_diff.specs.UntoldShown.{json_all_untold}
 use Rattle.aa_diff.specs.Report.{headed, is_profile_with, profiles_counted}
@@ -45,18 +42,11 @@ json_sign sign = member_text (codes "sign") (codes "\"" ++ sign_text sign ++ cod
 -- the profile of a line, its sign, and its first request by all its permissions
 unfoldable pub json_start : List Policy → Finding → List ℕ
 json_start ps f =
-    codes "{" ++ key_text (codes "profile") ++ json_profile ps f.from ++ json_sign f.sign ++ member_text (codes "request") (json_bytes (word_text (asked_of f)))
+    codes "{" ++ key_text (codes "profile") ++ json_profile ps f.from ++ json_sign f.sign ++ member_text (codes "request") (json_bytes (asked_text f))
 
--- it holds of others' objects alone
-abbrev pub is_of_others : Who → Bool
-is_of_others Others = true
-is_of_others _ = false
-
--- whose objects these are, how it was answered and is, and how many there are besides
+-- how it was answered and is, and how many there are besides
 unfoldable pub json_told : Finding → List ℕ
-json_told f =
-    member_text (codes "of_others") (bool_text (is_of_others f.who)) ++ member_text (codes "change") (json_bytes f.change)
-    ++ member_text (codes "more") (decimal f.more)
+json_told f = member_text (codes "change") (json_bytes f.change) ++ member_text (codes "more") (decimal f.more)
 
 -- a line with its rules
 abbrev pub json_line : List Policy → Finding → List ℕ
@@ -136,7 +126,7 @@ json_head o =
 abbrev pub json_found : List Policy → List Finding → List ApartRule → AllUntold → List ℕ
 json_found ps fs rs a =
     member_text (codes "lines") (json_lines ps fs) ++ json_unclean ps fs ++ member_text (codes "passed_over") (json_all_passed_over ps rs) ++ json_profiles fs
-    ++ member_text (codes "counts") (json_counts ps a.left_out (lines_with fs rs) fs (length rs)) ++ json_all_untold a
+    ++ member_text (codes "counts") (json_counts ps a.left_out (lines_with ps fs rs) fs (length rs)) ++ json_all_untold a
 
 -- the one object, and a line end
 abbrev pub json_report : DiffOptions → List Policy → List Finding → List ApartRule → AllUntold → List ℕ

@@ -1,8 +1,13 @@
 pub mod Named
 pub mod Signs
 pub mod Changes
+pub mod Sorted
 pub mod Rules
+pub mod Heads
 pub mod Findings
+pub mod Witness
+pub mod Places
+pub mod Order
 pub mod Gathered
 pub mod Joined
 pub mod Unclean
@@ -11,9 +16,6 @@ pub mod Printed
 pub mod Untold
 pub mod UntoldShown
 pub mod Report
-pub mod Sorted
-pub mod Places
-pub mod Order
 pub mod Naming
 pub mod Jsons
 pub mod Html

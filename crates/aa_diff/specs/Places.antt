@@ -1,18 +1,13 @@
 -- The places by which findings stand: those of the first rules that account for them.
 -- Source: own.
-use Rattle.std.specs.Prelude.{ℕ, List, Bool, Option, length, ◌==◌, if◌then◌else◌}
+use Rattle.std.specs.Prelude.{ℕ, Option, length, ◌==◌, if◌then◌else◌}
 use Rattle.std.specs.List.{slice_get}
 use Rattle.std.specs.Option.{option_or, option_cmp}
 use Rattle.std.specs.declared.cmp.Ordering.{Ordering}
-use Rattle.std.specs.Ordering.{ordering_then, nat_cmp, is_lt}
-use Rattle.std.specs.Cmp.Lexicographic.{slice_cmp}
+use Rattle.std.specs.Ordering.{ordering_then, nat_cmp}
 use Rattle.aa_diff.specs.declared.rules.Rule.{Rule}
 use Rattle.aa_diff.specs.declared.finding.Finding.{Finding}
-use Rattle.aa_diff.specs.Sorted.{sorted_by}
-
--- rules go by their paths in byte order, then by line, then by column
-abbrev pub rule_cmp : Rule → Rule → Ordering
-rule_cmp r s = ordering_then (slice_cmp nat_cmp r.path s.path) (ordering_then (nat_cmp r.place.line s.place.line) (nat_cmp r.place.column s.place.column))
+use Rattle.aa_diff.specs.Rules.{rule_cmp}
 
 -- the rule that a finding stands by: the first of the new policy, or else the first of the old one
 abbrev pub first_rule : Finding → Option Rule
@@ -25,11 +20,3 @@ side_number f = if length f.new_rules == 0 then (if length f.old_rules == 0 then
 -- findings by rules of the new policy go first, then those by rules of the old one, then those without a rule; of one policy they go by that rule
 abbrev pub place_cmp : Finding → Finding → Ordering
 place_cmp f g = ordering_then (nat_cmp (side_number f) (side_number g)) (option_cmp rule_cmp (first_rule f) (first_rule g))
-
--- one finding's place is before the other's
-abbrev pub is_before : Finding → Finding → Bool
-is_before f g = is_lt (place_cmp f g)
-
--- findings by their places, those of one place in the order that they have
-abbrev pub by_place : List Finding → List Finding
-by_place fs = sorted_by is_before fs

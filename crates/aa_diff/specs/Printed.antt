@@ -41,10 +41,14 @@ asked_by letters owned r = r
 abbrev pub asked_of : Finding → Request
 asked_of f = asked_by f.letters (is_owner f.who) f.request
 
--- it holds of others' objects alone
+-- before the word of an object that is others' alone
 abbrev pub others_text : Who → List ℕ
-others_text Others = codes " of others"
+others_text Others = codes "other:"
 others_text _ = []
+
+-- its word: behind `owned:` or `other:` where it holds of the task's user's objects alone, or of those of others alone
+abbrev pub asked_text : Finding → List ℕ
+asked_text f = others_text f.who ++ word_text (asked_of f)
 
 -- the sign at the head of a line
 abbrev pub sign_text : Sign → List ℕ
@@ -62,7 +66,7 @@ only_text unclean = if unclean then codes "only at unclean paths " else []
 
 -- the sign of a line, that it is about unclean paths alone, and the request
 unfoldable pub asked_part : Finding → List ℕ
-asked_part f = sign_text f.sign ++ codes " " ++ only_text f.unclean ++ word_text (asked_of f) ++ others_text f.who
+asked_part f = sign_text f.sign ++ codes " " ++ only_text f.unclean ++ asked_text f
 
 -- how it was answered and is, and how many there are besides
 unfoldable pub change_part : Finding → List ℕ

@@ -123,4 +123,4 @@ report_of ps ls fs rules a = lines_text ps ls fs ++ untold_text a ++ counts_text
 
 -- the report of what is shown
 abbrev pub report_text : List Policy → List Finding → List ApartRule → AllUntold → List ℕ
-report_text ps fs rs a = report_of ps (lines_with fs rs) fs (length rs) a
+report_text ps fs rs a = report_of ps (lines_with ps fs rs) fs (length rs) a

@@ -1,7 +1,11 @@
--- The rules that account for a difference: those that decide its request in one profile, and that the other hasn't.
+-- The rules that account for a difference: all that one profile has and the other hasn't, that match its request and name some of what it asks for.
 -- Source: own.
-use Rattle.std.specs.Prelude.{ℕ, ◌≡◌, List, [], ◌++◌, ◌==◌, ◌||◌, flat_map, codes, Bool, false, Option, Some, None, option_map, option_to_list, if◌then◌else◌}
-use Rattle.std.specs.List.{list_any, slice_get}
+use Rattle.std.specs.Prelude.{ℕ, ◌≡◌, List, [], ◌++◌, flat_map, codes, Bool, Option, Some, None, option_map, option_to_list, if◌then◌else◌}
+use Rattle.std.specs.List.{slice_get}
+use Rattle.std.specs.Option.{option_map_or}
+use Rattle.std.specs.declared.cmp.Ordering.{Ordering}
+use Rattle.std.specs.Ordering.{ordering_then, nat_cmp, is_lt}
+use Rattle.std.specs.Cmp.Lexicographic.{slice_cmp}
 use Rattle.aa_base.specs.declared.fault.Spot.{Spot}
 use Rattle.aa_text.specs.Visible.{all_visible}
 use Rattle.aa_text.specs.Texts.{where_text}
@@ -9,20 +13,21 @@ use Rattle.aa_model.specs.declared.policy.Policy.{Policy}
 use Rattle.aa_model.specs.declared.policy.Profile.{Profile}
 use Rattle.aa_model.specs.declared.label.Label.{Label}
 use Rattle.aa_model.specs.declared.request.Request.{Request}
+use Rattle.aa_model.specs.declared.request.Request.TheVariants.{Cap, Net, Change}
 use Rattle.aa_changed_rules.specs.Changed.{Changed, changed, changed_data}
-use Rattle.aa_explain.specs.declared.deciders.Decider.{Decider}
+use Rattle.aa_changed_rules.specs.Matching.{rules_on}
 use Rattle.aa_explain.specs.declared.deciders.Listed.{Listed}
 use Rattle.aa_explain.specs.declared.deciders.Listed.TheVariants.{Files, Caps, Nets, Changes}
 use Rattle.aa_explain.specs.declared.places.ProfilePlaces.{ProfilePlaces}
-use Rattle.aa_explain.specs.Deciders.{Reasons}
 use Rattle.aa_files.specs.declared.unit.Unit as unit
 use Rattle.aa_files.specs.Numbers.{path_in, text_in}
 use Rattle.aa_rule_text.specs.RuleTexts.{rule_text}
 use Rattle.aa_command.specs.declared.decided.Decided.{Decided}
 use Rattle.aa_ask.specs.Verdicts.{profile_at, number_in, spots_of}
-use Rattle.aa_ask.specs.Named.{stands_at, unit_in, why_here, why_target}
+use Rattle.aa_ask.specs.Named.{stands_at, unit_in}
 use Rattle.aa_diff.specs.declared.rules.Rule.{Rule}
 use Rattle.aa_diff.specs.declared.rules.OwnRules.{OwnRules}
+use Rattle.aa_diff.specs.Sorted.{sorted_by}
 
 -- ---- what one of two profiles alone has
 
@@ -42,27 +47,18 @@ pub record AreOwn (ps qs : List Policy) (l m : Label) (own : OwnRules) : Type 0 
   pub old : changed_data own.old ≡ own_at ps qs l m
   pub new : changed_data own.new ≡ own_at qs ps m l
 
--- their numbers in a list
-abbrev pub numbers_in : Changed → Listed → List ℕ
-numbers_in c Files = c.files
-numbers_in c Caps = c.caps
-numbers_in c Nets = c.nets
-numbers_in c Changes = c.changes
+-- ---- those that account for a difference
 
--- ---- those that decide
+-- the list of a profile's rules that a request is about
+abbrev pub listed_of : Request → Listed
+listed_of (Cap cap) = Caps
+listed_of (Net family kind) = Nets
+listed_of (Change name) = Changes
+listed_of _ = Files
 
--- one of these is the rule of that number
-abbrev pub is_decider : List Decider → ℕ → Bool
-is_decider ds n = list_any (λ (d : Decider). d.rule == n) ds
-
--- the rule of that number decides
-abbrev pub decides : Reasons → ℕ → Bool
-decides r n = is_decider r.denies n || is_decider r.allows n
-
--- it decides at a link's target
-abbrev pub decides_at : Option Reasons → ℕ → Bool
-decides_at None n = false
-decides_at (Some r) n = decides r n
+-- of a profile's own rules those that match a request and name some of what it asks for, if the label has a profile
+abbrev pub own_on : List Policy → Changed → Label → Request → List ℕ
+own_on ps c l r = option_map_or (rules_on r c) (profile_at ps l) []
 
 -- the rule that stands there in a unit
 abbrev pub rule_there : unit.Unit → Spot → Rule
@@ -72,23 +68,27 @@ rule_there u at = record { path = path_in u at.file; place = stands_at (text_in 
 abbrev pub rule_of : unit.Unit → List Spot → ℕ → List Rule
 rule_of u spots n = option_to_list (option_map (rule_there u) (slice_get spots n))
 
--- the same, if it decides
-abbrev pub rule_if : unit.Unit → List Spot → Reasons → Option Reasons → ℕ → List Rule
-rule_if u spots here target n = if decides here n || decides_at target n then rule_of u spots n else []
+-- the rules of these numbers
+abbrev pub rules_in : unit.Unit → List Spot → List ℕ → List Rule
+rules_in u spots ns = flat_map (rule_of u spots) ns
 
--- those of the rules with these numbers that decide
-abbrev pub rules_in : unit.Unit → List Spot → Reasons → Option Reasons → List ℕ → List Rule
-rules_in u spots here target ns = flat_map (rule_if u spots here target) ns
+-- rules go by their paths in byte order, then by line, then by column
+abbrev pub rule_cmp : Rule → Rule → Ordering
+rule_cmp r s = ordering_then (slice_cmp nat_cmp r.path s.path) (ordering_then (nat_cmp r.place.line s.place.line) (nat_cmp r.place.column s.place.column))
 
--- none can be shown where the profile's file or its places aren't there
-abbrev pub rules_by : Option unit.Unit → Option ProfilePlaces → Changed → Option Reasons → Option Reasons → List Rule
-rules_by (Some u) (Some places) c (Some here) target = rules_in u (spots_of here.listed places) here target (numbers_in c here.listed)
-rules_by _ _ c here target = []
+-- one rule stands before another
+abbrev pub stands_before : Rule → Rule → Bool
+stands_before r s = is_lt (rule_cmp r s)
 
--- those of a profile's own rules that decide a request
+-- none can be shown where the profile's file or its places aren't there; they go by their places
+abbrev pub rules_by : Option unit.Unit → Option ProfilePlaces → Listed → List ℕ → List Rule
+rules_by (Some u) (Some places) listed ns = sorted_by stands_before (rules_in u (spots_of listed places) ns)
+rules_by _ _ listed ns = []
+
+-- all rules of a profile's own that match a request and name some of what it asks for, whatever they say of it
 abbrev pub accounting : Decided → Changed → Label → Request → List Rule
 accounting d c l r =
-    rules_by (unit_in d.units.now d.owners.now (number_in l)) (slice_get d.places.now (number_in l)) c (why_here d.policies.now l r) (why_target d.policies.now l r)
+    rules_by (unit_in d.units.now d.owners.now (number_in l)) (slice_get d.places.now (number_in l)) (listed_of r) (own_on d.policies.now c l r)
 
 -- those that are told
 abbrev pub told_rules : Bool → Decided → Changed → Label → Request → List Rule

@@ -1,6 +1,6 @@
--- What isn't told where files are skipped, and which of them could tell.
+-- What isn't told: where files are skipped, and which of them could tell; and where patterns are too many.
 -- Source: own.
-use Rattle.std.specs.Prelude.{ℕ, List, [], ◌∷◌, ◌++◌, ◌&&◌, not, map, filter, flat_map, count_by, codes, Bool, true, false, Option, Some, if◌then◌else◌}
+use Rattle.std.specs.Prelude.{ℕ, List, [], ◌∷◌, ◌++◌, ◌+◌, ◌&&◌, not, min, map, filter, flat_map, count_by, codes, Bool, true, false, Option, Some, if◌then◌else◌}
 use Rattle.std.specs.Option.{option_map_or}
 use Rattle.std.specs.List.{list_any, slice_get}
 use Rattle.std.specs.Str.{bytes_eq}
@@ -13,9 +13,11 @@ use Rattle.aa_files.specs.Texts.{texts}
 use Rattle.aa_skipping.specs.declared.unread.Head.{Head}
 use Rattle.aa_skipping.specs.Names.{is_doubtful}
 use Rattle.aa_skipped.specs.declared.skipped.Skipped.{Skipped}
-use Rattle.aa_compile.specs.Labels.{first_profiles}
+use Rattle.aa_compile.specs.Labels.{label_name, first_profiles}
 use Rattle.aa_undecided.specs.Answers.{PlacedFile, placed, placed_all, files_deciding}
 use Rattle.aa_differences.specs.declared.at_labels.Difference.{Difference}
+use Rattle.aa_differences.specs.declared.comparison.Excess.{Excess}
+use Rattle.aa_differences.specs.declared.comparison.UntoldLabels.{UntoldLabels}
 use Rattle.aa_differences.specs.Openings.{is_open_label}
 use Rattle.aa_passed_over.specs.declared.apart.Side.{Side}
 use Rattle.aa_passed_over.specs.declared.apart.Side.TheVariants.{Old, New}
@@ -25,8 +27,10 @@ use Rattle.aa_diff.specs.declared.part.Part.{Part}
 use Rattle.aa_diff.specs.declared.untold.Subject.{Subject}
 use Rattle.aa_diff.specs.declared.untold.Subject.TheVariants as subject
 use Rattle.aa_diff.specs.declared.untold.Doubt.{Doubt}
+use Rattle.aa_diff.specs.declared.untold.TooLarge.{TooLarge}
 use Rattle.aa_diff.specs.declared.untold.Doubts.{Doubts}
 use Rattle.aa_diff.specs.Named.{is_named}
+use Rattle.aa_diff.specs.Signs.{is_confined}
 
 -- of whom something isn't told: tasks without a profile, those of the profile with a full name, or those of any that isn't read
 pub data About : Type 0 where
@@ -150,12 +154,51 @@ all_not_compared w d e =
 abbrev pub is_left_out : Part → Profile → Bool
 is_left_out e p = option_map_or (λ (policy : Policy). list_any (may_hold policy.profiles p.name) e.skipped.now) (slice_get e.decided.policies.now 0) false
 
+-- ---- labels at which differences can't be told
+
+-- who has a label
+abbrev pub about_label : List Policy → Label → About
+about_label ps (Unconfined k) = Free
+about_label ps (Confined k n) = Named (label_name ps (Confined k n))
+
+-- somebody at whose labels the patterns are too many together, or need more than so many states
+pub record Large : Type 0 where
+  pub who : About
+  pub why : Excess
+  pub limit : ℕ
+
+-- so, without where it lies in memory
+abbrev pub large : TooLarge → Large
+large x = record { who = about x.subject; why = x.why; limit = x.limit }
+
+-- so of labels at which differences can't be told
+abbrev pub large_at : List Policy → ℕ → UntoldLabels → Large
+large_at ps limit u = record { who = about_label ps u.from; why = u.why; limit = limit }
+
+-- that, if it is shown
+abbrev pub large_of : Wanted → List Policy → ℕ → UntoldLabels → List Large
+large_of w ps limit u = if is_shown w (about_label ps u.from) then large_at ps limit u ∷ [] else []
+
+-- those that are shown
+abbrev pub all_large : Wanted → List Policy → ℕ → List UntoldLabels → List Large
+all_large w ps limit us = flat_map (large_of w ps limit) us
+
+-- they are those of a profile
+abbrev pub is_profiles : UntoldLabels → Bool
+is_profiles u = is_confined u.from
+
+-- how many profiles of the old side aren't compared: files of the new one may hold them, or their patterns are too many
+abbrev pub all_left_out : Part → Part → List UntoldLabels → ℕ
+all_left_out d e us = min (count_by (is_left_out e) (first_profiles d.decided.policies.now) + count_by is_profiles us) 18446744073709551615
+
 -- ---- together
 
--- at which labels something is undecided, which profiles aren't compared, how many of these the old side reads, and the skipped files
+-- at which labels something is undecided, which profiles aren't compared, whose patterns are too many, how many profiles of the old side
+-- aren't compared for either reason, and the skipped files
 pub record AllUntold : Type 0 where
   pub undecided : List Untold
   pub not_compared : List Untold
+  pub too_large : List Large
   pub left_out : ℕ
   pub old : List PlacedFile
   pub new : List PlacedFile
@@ -165,17 +208,19 @@ abbrev pub doubts_data : Doubts → AllUntold
 doubts_data x = record {
   undecided = map untold x.undecided.items;
   not_compared = map untold x.not_compared.items;
+  too_large = map large x.too_large.items;
   left_out = x.left_out;
   old = placed_all x.old.items;
   new = placed_all x.new.items;
 }
 
--- all that is shown
-abbrev pub all_untold : Wanted → Part → Part → AllUntold
-all_untold w d e = record {
+-- all that is shown, where at these labels differences can't be told by so many states
+abbrev pub all_untold : Wanted → ℕ → Part → Part → List UntoldLabels → AllUntold
+all_untold w limit d e us = record {
   undecided = all_undecided w d e;
   not_compared = all_not_compared w d e;
-  left_out = count_by (is_left_out e) (first_profiles d.decided.policies.now);
+  too_large = all_large w d.decided.policies.now limit us;
+  left_out = all_left_out d e us;
   old = map placed d.skipped.now;
   new = map placed e.skipped.now;
 }

@@ -38,7 +38,7 @@ fn tells_labels(difference: &Difference) -> bool
     moves(difference.from, &difference.old) || moves(difference.to, &difference.new)
 }
 
-pub(crate) fn push_label_name(
+fn push_label_name(
     out: &mut Vec<u8>,
     alloc: Global,
     policies: &[Compiled],

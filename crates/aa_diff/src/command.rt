@@ -1,12 +1,11 @@
 //! What `diff` prints.
 
-ghost use Rattle.std.specs.Prelude.{◌≡◌, ◌++◌, ◌+◌, ◌<◌, ◌≤◌, ◌==◌, ◌&&◌, ◌↔◌, [], Err, map, Contains, IfOk, OnOk, if◌then◌else◌};
+ghost use Rattle.std.specs.Prelude.{◌≡◌, ◌++◌, ◌<◌, ◌≤◌, ◌==◌, ◌&&◌, ◌↔◌, [], map, Contains, IfOk, OnOk, if◌then◌else◌};
 ghost use Rattle.aa_pattern.specs.Limits.{most_states};
-ghost use Rattle.aa_representatives.specs.Apart.{HaveManyPatternsAnd};
 ghost use Rattle.aa_differences.specs.declared.at_labels.Difference.{Difference};
+ghost use Rattle.aa_differences.specs.declared.comparison.UntoldLabels.{UntoldLabels};
 ghost use Rattle.aa_differences.specs.Same.{SamePolicies};
-ghost use Rattle.aa_differences.specs.Differences.{IsDifference, ListAll, HavePlacesClean};
-ghost use Rattle.aa_model.specs.declared.label.Label.{Label};
+ghost use Rattle.aa_differences.specs.Differences.{IsDifference, IsUntold, ListAllBut};
 ghost use Rattle.aa_command.specs.Setting.{setting_of};
 ghost use Rattle.aa_command.specs.Printed.{printed, faults_alone};
 ghost use Rattle.aa_load.specs.UnitPolicy.{limit_of};
@@ -19,10 +18,9 @@ ghost use Rattle.aa_diff.specs.Report.{report_text};
 ghost use Rattle.aa_diff.specs.Accepted.{gone_of};
 ghost use Rattle.aa_diff.specs.Untold.{doubts_data};
 ghost use Rattle.aa_diff.specs.Sides.{IsMarked};
-ghost use Rattle.aa_diff.specs.Command.{states_text, patterns_text, findings_in, status_of, reported, reported_but, printed_lines, compared, AreCompared, IsCompared, IsComparedBeside, IsNewSide, IsNewBeside, IsDiffBut, accepting, IsDiffBy, IsDiffOutput};
+ghost use Rattle.aa_diff.specs.Command.{findings_in, status_by, status_of, reported, reported_but, printed_lines, compared, AreCompared, IsCompared, IsComparedBeside, IsNewSide, IsNewBeside, IsDiffBut, accepting, IsDiffBy, IsDiffOutput};
 
 use crate::accepted::{findings_left, push_gone, rules_left};
-use crate::change::push_label_name;
 use crate::deciding::decided_of;
 use crate::finding::{Finding, is_one_counted};
 use crate::html::push_html_report;
@@ -35,15 +33,15 @@ use crate::report::{lines_of, push_report};
 use crate::sides::{mark, note, of_side};
 use crate::unclean::all_told_unclean;
 use crate::untold::{Doubts, all_untold};
+use crate::untold_shown::push_large_faults;
 use aa_command::{Decided, Output, Settings, Use, path_refused, with_policy};
 use aa_compile::Compiled;
-use aa_differences::{Difference, DifferencesFault, policy_differences};
+use aa_differences::{Comparison, Difference, policy_differences};
 use aa_files::{Tree, main_text};
-use aa_model::Label;
 use aa_passed_over::{Apart, rules_apart};
 use aa_report::{entries_in, push_markdown};
 use aa_skipped::{Skipped, UsePart, with_read_policy};
-use aa_text::{NoMemory, push_number, push_text};
+use aa_text::NoMemory;
 use std::alloc::{AllocError, Global};
 
 /// How many states an automaton may have.
@@ -55,68 +53,24 @@ fn limit_of(states: u32) -> usize
     states.max(1).min(1_000_000) as usize
 }
 
-/// Appends that the patterns at a label need too many states.
-fn push_states(
-    out: &mut Vec<u8>,
-    alloc: Global,
-    policies: &[Compiled],
-    label: Label,
-    limit: usize,
-) -> Result<(), AllocError>
-    ensures { OnOk result (out.new.items ≡ out.old.items ++ states_text policies.now label limit) }
-{
-    push_text(out, "error: at ")?;
-    push_label_name(out, alloc, policies, label)?;
-    push_text(out, " the patterns of OLD and NEW need more than ")?;
-    push_number(out, limit)?;
-    push_text(out, " states together; --states allows more\n")
-}
-
-/// Appends that there are too many patterns at a label.
-fn push_patterns(
-    out: &mut Vec<u8>,
-    alloc: Global,
-    policies: &[Compiled],
-    label: Label,
-) -> Result<(), AllocError>
-    ensures { OnOk result (out.new.items ≡ out.old.items ++ patterns_text policies.now label) }
-{
-    push_text(out, "error: at ")?;
-    push_label_name(out, alloc, policies, label)?;
-    push_text(out, " OLD and NEW have more than 65535 patterns together\n")
-}
-
-fn say_states(
-    alloc: Global,
-    policies: &[Compiled],
-    label: Label,
-    limit: usize,
-) -> Result<Output, NoMemory>
-    ensures { IfOk result (λ out. printed out ≡ faults_alone (states_text policies.now label limit) 1) }
-{
-    let mut output = Output::new(alloc);
-    push_states(&mut output.faults, alloc, policies, label, limit)?;
-    output.status = 1;
-    Ok(output)
-}
-
-fn say_patterns(alloc: Global, policies: &[Compiled], label: Label) -> Result<Output, NoMemory>
-    ensures { IfOk result (λ out. printed out ≡ faults_alone (patterns_text policies.now label) 1) }
-{
-    let mut output = Output::new(alloc);
-    push_patterns(&mut output.faults, alloc, policies, label)?;
-    output.status = 1;
-    Ok(output)
-}
-
-/// 4 where a finding counts or rules are passed over, else 5 where something isn't told.
-fn status_of(counts: bool, rules: usize, undecided: usize, apart: usize) -> u8
-    ensures { result ≡ status_of counts rules undecided apart }
+/// 4 where a finding counts or rules are passed over, else 5 where skipped files could tell something.
+fn status_by(counts: bool, rules: usize, undecided: usize, apart: usize) -> u8
+    ensures { result ≡ status_by counts rules undecided apart }
 {
     if counts || rules != 0 {
         return 4;
     }
     if undecided == 0 && apart == 0 { 0 } else { 5 }
+}
+
+/// 1 where there are labels whose patterns are too many, before those.
+fn status_of(too_large: usize, counts: bool, rules: usize, undecided: usize, apart: usize) -> u8
+    ensures { result ≡ status_of too_large counts rules undecided apart }
+{
+    if too_large != 0 {
+        return 1;
+    }
+    status_by(counts, rules, undecided, apart)
 }
 
 /// Appends the text of findings, of rules that are passed over, and of what isn't told, as Markdown.
@@ -157,7 +111,8 @@ fn push_findings(
     }
 }
 
-/// Prints findings, rules that are passed over, and what isn't told, beside which accepted findings there aren't.
+/// Prints findings, rules that are passed over, and what isn't told, beside which accepted findings there aren't and whose patterns are
+/// too many.
 fn print_found(
     alloc: Global,
     options: &DiffOptions<'_>,
@@ -170,7 +125,8 @@ fn print_found(
     ensures { IfOk result (λ out. printed out ≡ reported options.now policies.now findings.now (map apart rules.now) gone.items (doubts_data doubts.now)) }
 {
     let mut output = Output::new(alloc);
-    output.faults = gone;
+    push_large_faults(&mut output.faults, alloc, doubts.too_large.as_slice())?;
+    output.faults.extend_from_slice(gone.as_slice())?;
     push_findings(
         &mut output.answers,
         alloc,
@@ -181,6 +137,7 @@ fn print_found(
         doubts,
     )?;
     output.status = status_of(
+        doubts.too_large.len(),
         is_one_counted(findings),
         rules.len(),
         doubts.undecided.len(),
@@ -218,7 +175,7 @@ fn print_but(
     let accepted = options.accepted;
     let gone = gone_of(alloc, policies, accepted, findings, rules)?;
     let left = findings_left(alloc, policies, options.wanted, accepted, findings)?;
-    let findings = in_order(alloc, left)?;
+    let findings = in_order(policies, left)?;
     let rules = rules_left(alloc, policies, options.wanted, accepted, rules)?;
     print_found(
         alloc,
@@ -255,18 +212,20 @@ fn print_decided(
     )
 }
 
-/// Prints differences.
+/// Prints what comparing with so many states gave.
 fn print_differences(
     alloc: Global,
     options: &DiffOptions<'_>,
+    limit: usize,
     old: Part<'_>,
     new: Part<'_>,
-    differences: Vec<Difference>,
+    found: Comparison,
 ) -> Result<Output, NoMemory>
-    ensures { IfOk result (λ out. printed out ≡ compared options.now old.entry new.entry differences.items) }
+    ensures { IfOk result (λ out. printed out ≡ compared options.now limit old.entry new.entry found.differences.items found.untold.items) }
 {
-    let doubts = all_untold(alloc, options.wanted, old, new)?;
-    let decided = decided_of(alloc, old, new, differences)?;
+    let untold = found.untold.as_slice();
+    let doubts = all_untold(alloc, options.wanted, limit, old, new, untold)?;
+    let decided = decided_of(alloc, old, new, found.differences)?;
     print_decided(
         alloc,
         options,
@@ -284,22 +243,21 @@ fn differences_of(
     old: Decided<'_>,
     new: Decided<'_>,
     limit: usize,
-) -> Result<Vec<Difference>, DifferencesFault>
+) -> Result<Comparison, AllocError>
     requires some { 0 < limit }
     requires limit { limit ≤ most_states }
-    ensures each { IfOk result (λ ds. (d : Difference) → Contains ds.items d → IsDifference old.entry.policies.now new.entry.policies.now d) }
-    ensures all { IfOk result (λ ds. ListAll old.entry.policies.now new.entry.policies.now ds.items) }
-    ensures none { IfOk result (λ ds. (ds.items ≡ []) ↔ SamePolicies old.entry.policies.now new.entry.policies.now) }
-    ensures many_patterns { (l m : Label) → result ≡ Err (DifferencesFault.TooManyPatterns l m) → HaveManyPatternsAnd old.entry.policies.now l new.entry.policies.now m }
-    ensures many_states { (l m : Label) → result ≡ Err (DifferencesFault.TooManyStates l m) → HavePlacesClean old.entry.policies.now l new.entry.policies.now m (limit + 1) }
+    ensures each { IfOk result (λ found. (d : Difference) → Contains found.differences.items d → IsDifference old.entry.policies.now new.entry.policies.now d) }
+    ensures untold { IfOk result (λ found. (u : UntoldLabels) → Contains found.untold.items u → IsUntold old.entry.policies.now new.entry.policies.now limit u) }
+    ensures all { IfOk result (λ found. ListAllBut old.entry.policies.now new.entry.policies.now found.untold.items found.differences.items) }
+    ensures none { IfOk result (λ found. found.untold.items ≡ [] → (found.differences.items ≡ []) ↔ SamePolicies old.entry.policies.now new.entry.policies.now) }
 {
     if old.policies.len() > 65536 || new.policies.len() > 65536 {
-        return Err(DifferencesFault::NoMemory);
+        return Err(AllocError);
     }
     policy_differences(alloc, old.policies, new.policies, limit)
 }
 
-/// Prints how two policies differ, or why that can't be told.
+/// Prints how two policies differ, and at which labels that can't be told.
 fn compare_all(
     alloc: Global,
     options: &DiffOptions<'_>,
@@ -311,18 +269,8 @@ fn compare_all(
     ensures low { IfOk result (λ out. out.status < 128) }
 {
     let limit = limit_of(states);
-    match differences_of(alloc, old.decided, new.decided, limit) {
-        Ok(found) => print_differences(alloc, options, old, new, found),
-        Err(DifferencesFault::NoMemory) => Err(NoMemory),
-        Err(DifferencesFault::TooManyPatterns(label, _)) => say_patterns(
-            alloc,
-            old.decided.policies,
-            label,
-        ),
-        Err(DifferencesFault::TooManyStates(label, _)) => {
-            say_states(alloc, old.decided.policies, label, limit)
-        }
-    }
+    let found = differences_of(alloc, old.decided, new.decided, limit)?;
+    print_differences(alloc, options, limit, old, new, found)
 }
 
 /// Says a line in place of what is compared.

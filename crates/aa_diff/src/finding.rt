@@ -2,10 +2,11 @@
 
 ghost use Rattle.std.specs.Prelude.{◌≡◌, IfOk};
 ghost use Rattle.std.specs.List.{list_any};
-ghost use Rattle.aa_diff.specs.Findings.{who_number, whose, who_of, letters_of, kind_number, is_profile, is_change, is_of_class, is_alike, is_link, is_minor, told_change, finding_of, is_uncounted, does_count, is_counted};
+ghost use Rattle.aa_diff.specs.Findings.{who_number, whose, who_of, letters_of, kind_number, is_profile, is_change, is_of_class, is_alike, is_link, is_minor, told_change, is_unreported, finding_of, is_uncounted, does_count, is_counted};
 ghost use Rattle.aa_diff.specs.Rules.{AreOwn};
 
 use crate::change::{change_text, is_same};
+use crate::heads::with_heads;
 use crate::rules::{OwnRules, Rule, copies_of, rules_text, told_rules};
 use crate::signs::{Sign, is_confined, sign_number, sign_of};
 use aa_base::{Perms, Seq, Text};
@@ -48,6 +49,8 @@ pub struct Finding {
     pub new_rules: Seq<Rule>,
     /// How many paths, names or entries there are besides, for each permission.
     pub more: u64,
+    /// Whether they were reported, and nothing of them is any more; not told of links of which other permissions are reported.
+    pub unreported: bool,
     /// Whether it is told as one at unclean paths alone, which doesn't count.
     pub unclean: bool,
 }
@@ -173,6 +176,13 @@ fn told_change(
     change_text(alloc, old, new, difference)
 }
 
+/// Whether what was reported is no more.
+fn is_unreported(difference: &Difference) -> bool
+    ensures { result ≡ is_unreported difference.now }
+{
+    difference.old.note.is_some() && !difference.new.note.is_some()
+}
+
 /// The finding that a difference is by itself, where it is known which rules each of the profiles there alone has.
 pub(crate) fn finding_of(
     alloc: Global,
@@ -187,13 +197,16 @@ pub(crate) fn finding_of(
     let sign = sign_of(old.policies, new.policies, difference);
     let is_minor = is_minor(sign, &difference.request);
     let request = &difference.request;
-    let old_rules = told_rules(alloc, is_minor, old, &own.old, difference.from, request)?;
-    let new_rules = told_rules(alloc, is_minor, new, &own.new, difference.to, request)?;
+    let (from, to) = (difference.from, difference.to);
+    let told = told_rules(alloc, is_minor, old, &own.old, from, request)?;
+    let old_rules = with_heads(alloc, old, new.policies, from, to, request, told)?;
+    let told = told_rules(alloc, is_minor, new, &own.new, to, request)?;
+    let new_rules = with_heads(alloc, new, old.policies, to, from, request, told)?;
     let rules = rules_text(alloc, old_rules.as_slice(), new_rules.as_slice())?;
     let change = told_change(alloc, old.policies, new.policies, is_minor, difference)?;
     Ok(Finding {
-        from: difference.from,
-        to: difference.to,
+        from,
+        to,
         sign,
         request: difference.request.try_clone()?,
         letters: letters_of(&difference.request),
@@ -203,6 +216,7 @@ pub(crate) fn finding_of(
         old_rules,
         new_rules,
         more: 0,
+        unreported: !is_minor && is_unreported(difference),
         unclean: false,
     })
 }
@@ -250,6 +264,7 @@ pub(crate) fn copy_of(alloc: Global, finding: &Finding) -> Result<Finding, Alloc
         old_rules: copies_of(alloc, finding.old_rules.as_slice())?,
         new_rules: copies_of(alloc, finding.new_rules.as_slice())?,
         more: finding.more,
+        unreported: finding.unreported,
         unclean: finding.unclean,
     })
 }

@@ -4,13 +4,14 @@ ghost use Rattle.std.specs.Prelude.{◌≡◌, ◌++◌, ◌<◌, ◌∷◌, [],
 ghost use Rattle.std.specs.List.{list_any};
 ghost use Rattle.aa_diff.specs.declared.finding.Finding.{Finding};
 ghost use Rattle.aa_diff.specs.Findings.{is_alike, finding_of};
-ghost use Rattle.aa_diff.specs.Gathered.{is_single, is_mixed, is_part_of, is_part, is_as_well, covers, recent, hides, is_cleaner, counted_up, changed_at, added, gathered, gathered_next};
+ghost use Rattle.aa_diff.specs.Gathered.{is_single, is_mixed, is_part_of, is_part, is_as_well, covers, recent, hides, is_cleaner, is_shorter, is_preferred, counted_up, changed_at, added, gathered, gathered_next};
 ghost use Rattle.aa_diff.specs.Rules.{AreOwn};
 
 use crate::change::is_same;
 use crate::finding::{Finding, finding_of, is_alike};
 use crate::rules::{OwnRules, own_beside, own_rules};
 use crate::signs::{Sign, sign_number, sign_of};
+use crate::witness::compare_shortness;
 use aa_base::Perms;
 use aa_command::Decided;
 use aa_compile::Compiled;
@@ -114,12 +115,27 @@ fn is_cleaner(finding: &Finding, known: &Finding) -> bool
     is_at_unclean_path(&known.request) && !is_at_unclean_path(&finding.request)
 }
 
-/// Counts one more at a finding of its line, which stands for both if the request of the known one alone is at an unclean path.
+/// Whether both requests are at unclean paths or neither, and a finding's is shorter than a known one's, or as long and first in byte order.
+fn is_shorter(finding: &Finding, known: &Finding) -> bool
+    ensures { result ≡ is_shorter finding.now known.now }
+{
+    is_at_unclean_path(&known.request) == is_at_unclean_path(&finding.request)
+        && compare_shortness(&finding.request, &known.request).is_lt()
+}
+
+/// Whether a finding stands for itself and for a known one.
+fn is_preferred(finding: &Finding, known: &Finding) -> bool
+    ensures { result ≡ is_preferred finding.now known.now }
+{
+    is_cleaner(finding, known) || is_shorter(finding, known)
+}
+
+/// Counts one more at a finding of its line, one of which stands for both.
 fn count_up(known: &mut Finding, finding: Finding)
     ensures { known.new ≡ counted_up finding known.old }
 {
     let more = known.more.saturating_add(1);
-    if is_cleaner(&finding, known) {
+    if is_preferred(&finding, known) {
         *known = finding;
     }
     known.more = more;

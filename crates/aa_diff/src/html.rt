@@ -5,10 +5,10 @@ ghost use Rattle.std.specs.List.{list_any};
 ghost use Rattle.aa_files.specs.Texts.{texts};
 ghost use Rattle.aa_passed_over.specs.Apart.{apart};
 ghost use Rattle.aa_diff.specs.Findings.{is_profile};
-ghost use Rattle.aa_diff.specs.Untold.{untold, doubts_data};
-ghost use Rattle.aa_diff.specs.UntoldShown.{untold_words};
+ghost use Rattle.aa_diff.specs.Untold.{untold, large, doubts_data};
+ghost use Rattle.aa_diff.specs.UntoldShown.{untold_words, large_words};
 ghost use Rattle.aa_diff.specs.Lines.{told, lines_with};
-ghost use Rattle.aa_diff.specs.Html.{mark_of, side_mark, html_rule, html_accounting, html_asked, html_change, html_line, html_only, html_rule_alone, html_passed_over, html_told, profile_title, section_open, section_close, html_closing, html_heading, html_confined, html_gone, html_profile, html_profile_if, profiles_section, html_profiles, html_free_if, html_free, html_path, html_paths, html_gains, html_head, html_counts, html_untold, html_all_untold, skipped_paragraph, html_skipped, html_known, html_sections, html_report};
+ghost use Rattle.aa_diff.specs.Html.{mark_of, side_mark, html_rule, html_accounting, html_asked, html_change, html_line, html_only, html_rule_alone, html_passed_over, html_told, profile_title, section_open, section_close, html_closing, html_heading, html_confined, html_gone, html_profile, html_profile_if, profiles_section, html_profiles, html_free_if, html_free, html_path, html_paths, html_gains, html_head, html_counts, html_untold, html_large, html_all_untold, skipped_paragraph, html_skipped, html_known, html_sections, html_report};
 
 use crate::finding::{Finding, is_profile};
 use crate::json::asked_word;
@@ -16,13 +16,13 @@ use crate::lines::{Line, label_of, lines_with};
 use crate::options::DiffOptions;
 use crate::printing::{
     gone_text, is_behind, is_free, is_one_free, name_asked, push_more, push_only as push_unclean,
-    push_others, side_text,
+    side_text,
 };
 use crate::report::{push_line_counts, push_profile_counts, push_rules_count};
 use crate::rules::Rule;
 use crate::signs::{Sign, is_confined};
-use crate::untold::{Doubt, Doubts};
-use crate::untold_shown::{count_of, push_skipped, push_words};
+use crate::untold::{Doubt, Doubts, TooLarge};
+use crate::untold_shown::{count_of, push_large_words, push_skipped, push_words};
 use aa_compile::{Compiled, name_of_label};
 use aa_model::Label;
 use aa_notation::push_word;
@@ -94,8 +94,7 @@ fn push_asked(out: &mut Vec<u8>, alloc: Global, finding: &Finding) -> Result<(),
     let word = asked_word(alloc, finding)?;
     push_line_start(out, mark_of(finding.sign))?;
     push_unclean(out, finding.unclean)?;
-    push_code(out, alloc, word.as_slice())?;
-    push_others(out, finding.who)
+    push_code(out, alloc, word.as_slice())
 }
 
 /// Appends how it was answered and is, and how many there are besides.
@@ -448,6 +447,29 @@ fn push_each_untold(
     Ok(())
 }
 
+/// Appends who isn't compared, and why, as a paragraph.
+#[tactic(auto, unfolding(crate::specs::Html::html_large))]
+fn push_large(out: &mut Vec<u8>, alloc: Global, one: &TooLarge) -> Result<(), AllocError>
+    ensures { OnOk result (out.new.items ≡ out.old.items ++ html_large (large one.now)) }
+{
+    let mut text = Vec::new(alloc);
+    push_large_words(&mut text, alloc, one)?;
+    push_paragraph(out, alloc, text.as_slice())
+}
+
+fn push_each_large(
+    out: &mut Vec<u8>,
+    alloc: Global,
+    too_large: &[TooLarge],
+) -> Result<(), AllocError>
+    ensures { OnOk result (out.new.items ≡ out.old.items ++ flat_map html_large (map large too_large.now)) }
+{
+    for one in too_large {
+        push_large(out, alloc, one)?;
+    }
+    Ok(())
+}
+
 /// Appends at which labels something is undecided, and which profiles aren't compared.
 fn push_all_untold(out: &mut Vec<u8>, alloc: Global, doubts: &Doubts) -> Result<(), AllocError>
     ensures { OnOk result (out.new.items ≡ out.old.items ++ html_all_untold (doubts_data doubts.now)) }
@@ -458,7 +480,8 @@ fn push_all_untold(out: &mut Vec<u8>, alloc: Global, doubts: &Doubts) -> Result<
         alloc,
         " not compared: ",
         doubts.not_compared.as_slice(),
-    )
+    )?;
+    push_each_large(out, alloc, doubts.too_large.as_slice())
 }
 
 /// Appends how many files are skipped, as a paragraph.
@@ -524,7 +547,7 @@ pub(crate) fn push_html_report(
 ) -> Result<(), AllocError>
     ensures { OnOk result (out.new.items ≡ out.old.items ++ html_report options.now policies.now findings.now (map apart rules.now) (doubts_data doubts.now)) }
 {
-    let lines = lines_with(alloc, findings, rules)?;
+    let lines = lines_with(alloc, policies, findings, rules)?;
     push_head(out, alloc, options)?;
     push_known(
         out,

@@ -3,19 +3,18 @@
 ghost use Rattle.std.specs.Prelude.{◌≡◌, ◌++◌, codes, decimal, map, length, OnOk, IfOk};
 ghost use Rattle.aa_text.specs.Jsons.{key_text, bool_text, member_text, list_text};
 ghost use Rattle.std.specs.List.{list_any};
-ghost use Rattle.aa_notation.specs.Written.{word_text};
 ghost use Rattle.aa_diff.specs.declared.signs.Sign.TheVariants.{Gain, Loss};
 ghost use Rattle.aa_passed_over.specs.Apart.{apart};
 ghost use Rattle.aa_diff.specs.Findings.{is_uncounted};
 ghost use Rattle.aa_diff.specs.Lines.{told, lines_with};
-ghost use Rattle.aa_diff.specs.Printed.{asked_of};
+ghost use Rattle.aa_diff.specs.Printed.{asked_text};
 ghost use Rattle.aa_diff.specs.Untold.{doubts_data};
-ghost use Rattle.aa_diff.specs.Jsons.{json_accounting, json_profile, json_sign, json_start, is_of_others, json_told, json_line, json_lines, json_unclean_lines, json_unclean, json_names, json_profile_counts, json_line_counts, json_counts, json_paths, json_head, json_rule_side, json_rule_text, json_all_passed_over, json_profiles, json_found, json_report};
+ghost use Rattle.aa_diff.specs.Jsons.{json_accounting, json_profile, json_sign, json_start, json_told, json_line, json_lines, json_unclean_lines, json_unclean, json_names, json_profile_counts, json_line_counts, json_counts, json_paths, json_head, json_rule_side, json_rule_text, json_all_passed_over, json_profiles, json_found, json_report};
 
-use crate::finding::{Finding, Who, does_count, is_profile, is_uncounted};
+use crate::finding::{Finding, does_count, is_profile, is_uncounted};
 use crate::lines::{Line, lines_with};
 use crate::options::DiffOptions;
-use crate::printing::{asked_of, name_asked, side_text, sign_text};
+use crate::printing::{name_asked, push_asked, side_text, sign_text};
 use crate::report::{count_lines, count_profiles, headed, is_profile_with, profiles_counted};
 use crate::rules::Rule;
 use crate::signs::{Sign, is_confined};
@@ -23,7 +22,6 @@ use crate::untold::Doubts;
 use crate::untold_shown::push_json_untold;
 use aa_compile::{Compiled, name_of_label};
 use aa_model::Label;
-use aa_notation::push_word;
 use aa_passed_over::Apart;
 use aa_text::{
     ListItem, ToJson, push_comma, push_json_bytes, push_json_place, push_key, push_list,
@@ -82,13 +80,12 @@ fn push_json_sign(out: &mut Vec<u8>, sign: Sign) -> Result<(), AllocError>
     push_text(out, "\"")
 }
 
-/// The first request of a finding as one word.
+/// The first request of a finding as one word, which tells whose objects it holds of.
 pub(crate) fn asked_word(alloc: Global, finding: &Finding) -> Result<Vec<u8>, AllocError>
-    ensures { IfOk result (λ word. word.items ≡ word_text (asked_of finding.now)) }
+    ensures { IfOk result (λ word. word.items ≡ asked_text finding.now) }
 {
-    let request = asked_of(alloc, finding)?;
     let mut word = Vec::new(alloc);
-    push_word(&mut word, &request)?;
+    push_asked(&mut word, alloc, finding)?;
     Ok(word)
 }
 
@@ -110,21 +107,11 @@ fn push_json_start(
     push_member(out, alloc, "request", &word)
 }
 
-fn is_of_others(who: Who) -> bool
-    ensures { result ≡ is_of_others who }
-{
-    match who {
-        Who::Others => true,
-        _ => false,
-    }
-}
-
-/// Appends whose objects these are, how it was answered and is, and how many there are besides.
+/// Appends how it was answered and is, and how many there are besides.
 #[tactic(auto, unfolding(crate::specs::Jsons::json_told))]
 fn push_json_told(out: &mut Vec<u8>, alloc: Global, finding: &Finding) -> Result<(), AllocError>
     ensures { OnOk result (out.new.items ≡ out.old.items ++ json_told finding.now) }
 {
-    push_member(out, alloc, "of_others", &is_of_others(finding.who))?;
     push_member(out, alloc, "change", &finding.change.as_slice())?;
     push_member(out, alloc, "more", &finding.more)
 }
@@ -378,9 +365,9 @@ fn push_counts_member(
     findings: &[Finding],
     rules: &[Apart],
 ) -> Result<(), AllocError>
-    ensures { OnOk result (out.new.items ≡ out.old.items ++ member_text (codes "counts") (json_counts policies.now left_out (lines_with findings.now (map apart rules.now)) findings.now (length (map apart rules.now)))) }
+    ensures { OnOk result (out.new.items ≡ out.old.items ++ member_text (codes "counts") (json_counts policies.now left_out (lines_with policies.now findings.now (map apart rules.now)) findings.now (length (map apart rules.now)))) }
 {
-    let lines = lines_with(alloc, findings, rules)?;
+    let lines = lines_with(alloc, policies, findings, rules)?;
     push_next_key(out, "counts")?;
     push_counts(
         out,

@@ -1,6 +1,7 @@
 //! What lines tell, and what is so where there are none.
 
-ghost use Rattle.aa_diff.specs.Telling.{LinesTellEntries};
+ghost use Rattle.aa_diff.specs.Lines.{KeepLines};
+ghost use Rattle.aa_diff.specs.Telling.{LinesTellEntries, GainsAreGained, GainsArePrinted, GainsAreTold};
 ghost use Rattle.aa_diff.specs.Holding.{ProfilesHold, FreeHold};
 
 use aa_differences::closed_labels_are_decided;
@@ -11,6 +12,20 @@ use aa_skipping::skipping_is_sound;
 /// a single permission has that tells of it; each line is that of an entry; and of all profiles gains are shown exactly where an entry is one.
 pub fn lines_tell_entries()
     ensures { LinesTellEntries }
+{}
+
+/// A law and no work: the findings and the rules that are printed, in their order, are just those that there are.
+pub fn printing_keeps_lines()
+    ensures { KeepLines }
+{}
+
+/// A law and no work: where no file is skipped and no finding is accepted, a gain is printed about a label only where a request that can
+/// be asked gains there, and of all profiles wherever one does, but at labels at which differences can't be told; so where all are listed,
+/// one is printed exactly where one request gains.
+pub fn gains_are_told()
+    ensures gained { GainsAreGained }
+    ensures printed { GainsArePrinted }
+    ensures told { GainsAreTold }
 {}
 
 /// A law and no work: where no line is about a profile, nothing is undecided there, and it is compared, the policies of all files of both

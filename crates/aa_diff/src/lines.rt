@@ -1,43 +1,23 @@
 //! The lines of profiles that both policies have.
 
 ghost use Rattle.std.specs.Prelude.{◌≡◌, ◌++◌, map, OnOk, IfOk};
-ghost use Rattle.std.specs.List.{take_while};
 ghost use Rattle.aa_passed_over.specs.Apart.{apart};
-ghost use Rattle.aa_diff.specs.Lines.{PassedOver, told, number_at, number_of, is_ahead, past, lines_with, label_of, does_line_count};
+ghost use Rattle.aa_diff.specs.Lines.{Found, PassedOver, told, part_of, line_cmp, stands_above, lines_with, label_of, does_line_count};
+ghost use Rattle.aa_diff.specs.Sorted.{sorted_by};
 
 use crate::finding::{Finding, does_count};
+use crate::order::compare_names;
+use aa_compile::Compiled;
 use aa_model::Label;
 use aa_passed_over::Apart;
 use std::alloc::{AllocError, Global};
+use std::cmp::Ordering;
 
 /// A line about a profile: a finding, or a rule that is passed over and that one policy alone has.
 #[derive(Clone, Copy, Drop)]
 pub(crate) enum Line<'a> {
     Found(&'a Finding),
     PassedOver(&'a Apart),
-}
-
-/// The number before which all profiles are whose rules stand before a finding at a label: those before the label's, and where the finding
-/// doesn't count the label's too.
-fn number_at(counts: bool, label: Label) -> usize
-    ensures { result ≡ number_at counts label }
-{
-    match label {
-        Label::Unconfined(_) => 0,
-        Label::Confined(_, number) => {
-            if counts {
-                number as usize
-            } else {
-                number as usize + 1
-            }
-        }
-    }
-}
-
-fn number_of(finding: &Finding) -> usize
-    ensures { result ≡ number_of finding.now }
-{
-    number_at(does_count(finding), finding.from)
 }
 
 /// The label that a line is about.
@@ -60,31 +40,31 @@ pub(crate) fn does_line_count(line: Line<'_>) -> bool
     }
 }
 
-/// Whether a rule is of a profile before that number.
-fn is_ahead(number: usize, rule: &Apart) -> bool
-    ensures { result ≡ is_ahead number (apart rule.now) }
+/// Of one label findings that count go first, then rules that are passed over, then the other findings.
+fn part_of(line: Line<'_>) -> u8
+    ensures { result ≡ part_of (told line.entry) }
 {
-    (rule.profile as usize) < number
+    match line {
+        Line::Found(finding) => { if does_count(finding) { 0 } else { 2 } }
+        Line::PassedOver(_) => 1,
+    }
 }
 
-/// Adds the rules of the profiles before that number, and gives the others.
-fn push_ahead<'a>(
-    lines: &mut Vec<Line<'a>>,
-    rules: &'a [Apart],
-    number: usize,
-) -> Result<&'a [Apart], AllocError>
-    ensures lines { OnOk result (map told lines.new.items ≡ map told lines.old.items ++ map PassedOver (take_while (is_ahead number) (map apart rules.entry.now))) }
-    ensures rest { IfOk result (λ rest. map apart rest.now ≡ past number (map apart rules.entry.now)) }
+fn compare_lines(policies: &[Compiled], one: Line<'_>, other: Line<'_>) -> Ordering
+    ensures { result ≡ line_cmp policies.now (told one.entry) (told other.entry) }
 {
-    let mut rest = rules;
-    while let [rule, after @ ..] = rest {
-        if !is_ahead(number, rule) {
-            return Ok(rest);
-        }
-        lines.push(Line::PassedOver(rule))?;
-        rest = after;
+    let by_name = compare_names(policies, label_of(one), label_of(other));
+    by_name.then(part_of(one).cmp(&part_of(other)))
+}
+
+/// Adds findings.
+fn push_found<'a>(lines: &mut Vec<Line<'a>>, findings: &'a [Finding]) -> Result<(), AllocError>
+    ensures { OnOk result (map told lines.new.items ≡ map told lines.old.items ++ map Found findings.entry.now) }
+{
+    for finding in findings {
+        lines.push(Line::Found(finding))?;
     }
-    Ok(rest)
+    Ok(())
 }
 
 /// Adds rules.
@@ -97,22 +77,28 @@ fn push_all<'a>(lines: &mut Vec<Line<'a>>, rules: &'a [Apart]) -> Result<(), All
     Ok(())
 }
 
+/// Lines by the names of their labels.
+fn by_label<'a>(
+    policies: &[Compiled],
+    mut lines: Vec<Line<'a>>,
+) -> Result<Vec<Line<'a>>, AllocError>
+    ensures { IfOk result (λ ordered. map told ordered.items ≡ sorted_by (stands_above policies.now) (map told lines.entry.items)) }
+{
+    lines.sort_by(|one, other| compare_lines(policies, *one, *other))?;
+    Ok(lines)
+}
+
 /// Findings, and each rule behind those of its profile that count.
 pub(crate) fn lines_with<'a>(
     alloc: Global,
+    policies: &[Compiled],
     findings: &'a [Finding],
     rules: &'a [Apart],
 ) -> Result<Vec<Line<'a>>, AllocError>
-    ensures { IfOk result (λ lines. map told lines.items ≡ lines_with findings.entry.now (map apart rules.entry.now)) }
+    ensures { IfOk result (λ lines. map told lines.items ≡ lines_with policies.now findings.entry.now (map apart rules.entry.now)) }
 {
     let mut lines = Vec::new(alloc);
-    let mut rest = findings;
-    let mut rules = rules;
-    while let [finding, after @ ..] = rest {
-        rules = push_ahead(&mut lines, rules, number_of(finding))?;
-        lines.push(Line::Found(finding))?;
-        rest = after;
-    }
+    push_found(&mut lines, findings)?;
     push_all(&mut lines, rules)?;
-    Ok(lines)
+    by_label(policies, lines)
 }

@@ -1,25 +1,15 @@
 //! The places by which findings stand: those of the first rules that account for them.
 
-ghost use Rattle.std.specs.Prelude.{◌≡◌, IfOk, option_map};
+ghost use Rattle.std.specs.Prelude.{◌≡◌, option_map};
 ghost use Rattle.std.specs.Option.{option_cmp};
-ghost use Rattle.aa_diff.specs.Places.{rule_cmp, first_rule, side_number, place_cmp, by_place};
+ghost use Rattle.aa_diff.specs.Rules.{rule_cmp};
+ghost use Rattle.aa_diff.specs.Places.{first_rule, side_number, place_cmp};
 
 use crate::finding::Finding;
-use crate::rules::Rule;
-use std::alloc::AllocError;
+use crate::rules::{Rule, compare_rules};
 use std::cmp::Ordering;
 
-/// Rules go by their paths in byte order, then by line, then by column.
-fn compare_rules(one: &Rule, other: &Rule) -> Ordering
-    ensures { result ≡ rule_cmp one.now other.now }
-{
-    let by_path = one.path.as_slice().cmp(other.path.as_slice());
-    let by_line = one.place.line.cmp(&other.place.line);
-    let by_column = one.place.column.cmp(&other.place.column);
-    by_path.then(by_line.then(by_column))
-}
-
-/// The same of rules that there may be: none goes first.
+/// How rules compare that there may be: none goes first.
 fn compare_found(one: Option<&Rule>, other: Option<&Rule>) -> Ordering
     ensures { result ≡ option_cmp rule_cmp (option_map (λ r. r.now) one.entry) (option_map (λ r. r.now) other.entry) }
 {
@@ -55,18 +45,10 @@ fn side_number(finding: &Finding) -> u8
     }
 }
 
-fn compare_places(one: &Finding, other: &Finding) -> Ordering
+/// Findings go by their places: by rules of the new policy, then by rules of the old one, then those without a rule.
+pub(crate) fn compare_places(one: &Finding, other: &Finding) -> Ordering
     ensures { result ≡ place_cmp one.now other.now }
 {
     let by_side = side_number(one).cmp(&side_number(other));
     by_side.then(compare_found(first_rule(one), first_rule(other)))
-}
-
-/// Findings by their places: by rules of the new policy, then by rules of the old one, then those without a rule. Those of one place stay
-/// in the order that they have.
-pub(crate) fn by_place(mut findings: Vec<Finding>) -> Result<Vec<Finding>, AllocError>
-    ensures { IfOk result (λ fs. fs.items ≡ by_place findings.items) }
-{
-    findings.sort_by(|one, other| compare_places(one, other))?;
-    Ok(findings)
 }

@@ -5,7 +5,7 @@ ghost use Rattle.std.specs.List.{list_any};
 ghost use Rattle.aa_base.specs.Values.{value};
 ghost use Rattle.aa_notation.specs.Written.{word_text};
 ghost use Rattle.aa_diff.specs.declared.finding.Finding.{Finding};
-ghost use Rattle.aa_diff.specs.Printed.{is_owner, asked_by, asked_of, others_text, sign_text, more_text, only_text, asked_part, change_part, finding_part, line_start, line_end, line_text, gone_text, name_asked, profile_part, profile_text, profile_if, free_if, is_free, is_behind, heading, side_text, rule_part, passed_over_text, told_text, confined_text, free_text};
+ghost use Rattle.aa_diff.specs.Printed.{is_owner, asked_by, asked_of, others_text, asked_text, sign_text, more_text, only_text, asked_part, change_part, finding_part, line_start, line_end, line_text, gone_text, name_asked, profile_part, profile_text, profile_if, free_if, is_free, is_behind, heading, side_text, rule_part, passed_over_text, told_text, confined_text, free_text};
 ghost use Rattle.aa_passed_over.specs.Apart.{apart};
 ghost use Rattle.aa_diff.specs.Lines.{told};
 
@@ -47,7 +47,7 @@ fn asked_by(alloc: Global, finding: &Finding, owned: bool) -> Result<Request, Re
 }
 
 /// The first request of a finding, by all its permissions.
-pub(crate) fn asked_of(alloc: Global, finding: &Finding) -> Result<Request, AllocError>
+fn asked_of(alloc: Global, finding: &Finding) -> Result<Request, AllocError>
     ensures { IfOk result (λ request. request ≡ asked_of finding.now) }
 {
     match asked_by(alloc, finding, is_owner(finding.who)) {
@@ -56,21 +56,27 @@ pub(crate) fn asked_of(alloc: Global, finding: &Finding) -> Result<Request, Allo
     }
 }
 
-/// Appends the first request of a finding as one word.
-fn push_asked(out: &mut Vec<u8>, alloc: Global, finding: &Finding) -> Result<(), AllocError>
-    ensures { OnOk result (out.new.items ≡ out.old.items ++ word_text (asked_of finding.now)) }
-{
-    let request = asked_of(alloc, finding)?;
-    push_word(out, &request)
-}
-
-pub(crate) fn push_others(out: &mut Vec<u8>, who: Who) -> Result<(), AllocError>
-    ensures { OnOk result (out.new.items ≡ out.old.items ++ others_text who) }
+/// What stands before the word of an object that is others' alone.
+fn others_text(who: Who) -> &'static str
+    ensures { result.now ≡ others_text who }
 {
     match who {
-        Who::Others => push_text(out, " of others"),
-        _ => Ok(()),
+        Who::Others => "other:",
+        _ => "",
     }
+}
+
+/// Appends the first request of a finding as one word, which tells whose objects it holds of.
+pub(crate) fn push_asked(
+    out: &mut Vec<u8>,
+    alloc: Global,
+    finding: &Finding,
+) -> Result<(), AllocError>
+    ensures { OnOk result (out.new.items ≡ out.old.items ++ asked_text finding.now) }
+{
+    let request = asked_of(alloc, finding)?;
+    push_text(out, others_text(finding.who))?;
+    push_word(out, &request)
 }
 
 /// The sign at the head of a line.
@@ -117,8 +123,7 @@ fn push_asked_part(out: &mut Vec<u8>, alloc: Global, finding: &Finding) -> Resul
     push_text(out, sign_text(finding.sign))?;
     push_text(out, " ")?;
     push_only(out, finding.unclean)?;
-    push_asked(out, alloc, finding)?;
-    push_others(out, finding.who)
+    push_asked(out, alloc, finding)
 }
 
 /// Appends how it was answered and is, and how many there are besides.

@@ -380,7 +380,7 @@ pub(crate) fn push_report(
 ) -> Result<(), AllocError>
     ensures { OnOk result (out.new.items ≡ out.old.items ++ report_text policies.now findings.now (map apart rules.now) (doubts_data doubts.now)) }
 {
-    let lines = lines_with(alloc, findings, rules)?;
+    let lines = lines_with(alloc, policies, findings, rules)?;
     push_report_of(
         out,
         alloc,

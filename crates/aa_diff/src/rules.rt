@@ -1,25 +1,26 @@
-//! The rules that account for a difference: those that decide its request in one profile, and that the other hasn't.
+//! The rules that account for a difference: all that one profile has and the other hasn't, that match its request and name some of what it asks
+//! for.
 
-ghost use Rattle.std.specs.Prelude.{◌≡◌, ◌++◌, ◌==◌, ◌||◌, codes, flat_map, map, option_map, false, OnOk, IfOk, if◌then◌else◌};
-ghost use Rattle.std.specs.List.{list_any, slice_get};
-ghost use Rattle.aa_explain.specs.Deciders.{reasons};
-ghost use Rattle.aa_ask.specs.Named.{why_here, why_target};
+ghost use Rattle.std.specs.Prelude.{◌≡◌, ◌++◌, codes, flat_map, map, option_map, OnOk, IfOk, if◌then◌else◌};
+ghost use Rattle.std.specs.List.{slice_get};
 ghost use Rattle.aa_ask.specs.Verdicts.{profile_at, number_in, spots_of};
 ghost use Rattle.aa_changed_rules.specs.Changed.{changed_data};
-ghost use Rattle.aa_diff.specs.Rules.{AreOwn, own_by, own_at, numbers_in, is_decider, decides, decides_at, rule_there, rule_of, rule_if, rules_in, rules_by, accounting, told_rules, rule_line, rules_text};
+ghost use Rattle.aa_diff.specs.Rules.{AreOwn, own_by, own_at, listed_of, own_on, rule_there, rule_of, rules_in, rule_cmp, stands_before, rules_by, accounting, told_rules, rule_line, rules_text};
+ghost use Rattle.aa_diff.specs.Sorted.{sorted_by};
 
 use crate::change::is_same;
 use aa_ask::unit_of;
 use aa_base::{Seq, Spot, Text};
-use aa_changed_rules::{ChangedRules, changed_rules};
+use aa_changed_rules::{ChangedRules, changed_rules, rules_on};
 use aa_command::{Decided, PlacedUnit};
 use aa_compile::{Compiled, profile_of};
-use aa_explain::{Decider, Deciders, Listed, ProfilePlaces, deciders_of, target_deciders};
+use aa_explain::{Listed, ProfilePlaces};
 use aa_files::text_at;
 use aa_model::{Label, Profile, Request};
 use aa_rule_text::rule_text;
 use aa_text::{PlaceAt, push_text, push_visible, push_where};
 use std::alloc::{AllocError, Global};
+use std::cmp::Ordering;
 
 /// A rule that accounts for a difference.
 #[derive(Drop)]
@@ -120,17 +121,6 @@ pub(crate) fn own_beside(
     own_rules(alloc, old, new, from, to)
 }
 
-fn numbers_in(rules: &ChangedRules, listed: Listed) -> &[usize]
-    ensures { result.now ≡ numbers_in (changed_data rules.now) listed }
-{
-    match listed {
-        Listed::Files => rules.files.as_slice(),
-        Listed::Caps => rules.caps.as_slice(),
-        Listed::Nets => rules.nets.as_slice(),
-        Listed::Changes => rules.changes.as_slice(),
-    }
-}
-
 fn spots_in<'p>(places: &'p ProfilePlaces<'_>, listed: Listed) -> &'p [Spot]
     ensures { result.now ≡ spots_of listed places.now }
 {
@@ -142,62 +132,34 @@ fn spots_in<'p>(places: &'p ProfilePlaces<'_>, listed: Listed) -> &'p [Spot]
     }
 }
 
-/// Why a request is answered so at its object, if the label has a profile.
-fn why_here(
-    alloc: Global,
-    policies: &[Compiled],
-    label: Label,
-    request: &Request,
-) -> Result<Option<Deciders>, AllocError>
-    ensures { IfOk result (λ here. option_map reasons here ≡ why_here policies.now label request.now) }
+/// The list of a profile's rules that a request is about.
+fn listed_of(request: &Request) -> Listed
+    ensures { result ≡ listed_of request.now }
 {
-    let Label::Confined(policy, number) = label else {
-        return Ok(None);
-    };
-    match policies.get(policy as usize) {
-        Some(compiled) => deciders_of(alloc, compiled, number, request),
-        None => Ok(None),
+    match request {
+        Request::Cap(_) => Listed::Caps,
+        Request::Net(_, _) => Listed::Nets,
+        Request::Change(_) => Listed::Changes,
+        _ => Listed::Files,
     }
 }
 
-/// The same at a link's target.
-fn why_target(
+/// Of a profile's own rules those that match a request and name some of what it asks for, if the label has a profile.
+fn own_on(
     alloc: Global,
     policies: &[Compiled],
+    own: &ChangedRules,
     label: Label,
     request: &Request,
-) -> Result<Option<Deciders>, AllocError>
-    ensures { IfOk result (λ target. option_map reasons target ≡ why_target policies.now label request.now) }
+) -> Result<Vec<usize>, AllocError>
+    ensures { IfOk result (λ numbers. numbers.items ≡ own_on policies.now (changed_data own.now) label request.now) }
 {
     let Label::Confined(policy, number) = label else {
-        return Ok(None);
+        return Ok(Vec::new(alloc));
     };
     match policies.get(policy as usize) {
-        Some(compiled) => target_deciders(alloc, compiled, number, request),
-        None => Ok(None),
-    }
-}
-
-fn is_decider(deciders: &[Decider], number: usize) -> bool
-    ensures { result ≡ is_decider deciders.now number }
-{
-    deciders.iter().any(|decider| decider.rule == number)
-}
-
-/// Whether the rule of that number is one that decides.
-fn decides(deciders: &Deciders, number: usize) -> bool
-    ensures { result ≡ decides (reasons deciders.now) number }
-{
-    is_decider(deciders.denies.as_slice(), number) || is_decider(deciders.allows.as_slice(), number)
-}
-
-/// Whether it decides at a link's target.
-fn decides_at(target: &Option<Deciders>, number: usize) -> bool
-    ensures { result ≡ decides_at (option_map reasons target.now) number }
-{
-    match target {
-        Some(target) => decides(target, number),
-        None => false,
+        Some(compiled) => rules_on(alloc, compiled, number, own, request),
+        None => Ok(Vec::new(alloc)),
     }
 }
 
@@ -237,64 +199,54 @@ fn push_rule(
     Ok(())
 }
 
-/// Adds the rule of that number, if it decides.
-fn push_rule_if(
-    alloc: Global,
-    unit: &PlacedUnit<'_>,
-    spots: &[Spot],
-    here: &Deciders,
-    target: &Option<Deciders>,
-    number: usize,
-    rules: &mut Vec<Rule>,
-) -> Result<(), AllocError>
-    ensures { OnOk result (rules.new.items ≡ rules.old.items ++ rule_if unit.now spots.now (reasons here.now) (option_map reasons target.now) number) }
-{
-    if decides(here, number) || decides_at(target, number) {
-        return push_rule(alloc, unit, spots, number, rules);
-    }
-    Ok(())
-}
-
-/// Those of the rules with these numbers that decide.
+/// The rules of these numbers.
 fn rules_in(
     alloc: Global,
     unit: &PlacedUnit<'_>,
     spots: &[Spot],
-    here: &Deciders,
-    target: &Option<Deciders>,
     numbers: &[usize],
 ) -> Result<Vec<Rule>, AllocError>
-    ensures { IfOk result (λ rules. rules.items ≡ rules_in unit.now spots.now (reasons here.now) (option_map reasons target.now) numbers.now) }
+    ensures { IfOk result (λ rules. rules.items ≡ rules_in unit.now spots.now numbers.now) }
 {
     let mut rules = Vec::new(alloc);
     for number in numbers {
-        push_rule_if(alloc, unit, spots, here, target, *number, &mut rules)?;
+        push_rule(alloc, unit, spots, *number, &mut rules)?;
     }
     Ok(rules)
 }
 
-/// Those of a profile's own rules that decide, where it is known where they stand.
+/// Rules go by their paths in byte order, then by line, then by column.
+pub(crate) fn compare_rules(one: &Rule, other: &Rule) -> Ordering
+    ensures { result ≡ rule_cmp one.now other.now }
+{
+    let by_path = one.path.as_slice().cmp(other.path.as_slice());
+    let by_line = one.place.line.cmp(&other.place.line);
+    let by_column = one.place.column.cmp(&other.place.column);
+    by_path.then(by_line.then(by_column))
+}
+
+/// Rules by their places.
+fn in_places(mut rules: Vec<Rule>) -> Result<Vec<Rule>, AllocError>
+    ensures { IfOk result (λ placed. placed.items ≡ sorted_by stands_before rules.items) }
+{
+    rules.sort_by(|one, other| compare_rules(one, other))?;
+    Ok(rules)
+}
+
+/// Those of a list with these numbers by their places, where it is known where they stand.
 fn rules_by(
     alloc: Global,
     unit: Option<&PlacedUnit<'_>>,
     places: Option<&ProfilePlaces<'_>>,
-    own: &ChangedRules,
-    here: &Option<Deciders>,
-    target: &Option<Deciders>,
+    listed: Listed,
+    numbers: &[usize],
 ) -> Result<Vec<Rule>, AllocError>
-    ensures { IfOk result (λ rules. rules.items ≡ rules_by (option_map (λ u. u.now) unit.entry) (option_map (λ p. p.now) places.entry) (changed_data own.now) (option_map reasons here.now) (option_map reasons target.now)) }
+    ensures { IfOk result (λ rules. rules.items ≡ rules_by (option_map (λ u. u.now) unit.entry) (option_map (λ p. p.now) places.entry) listed numbers.now) }
 {
-    match (unit, places, here) {
-        (Some(unit), Some(places), Some(here)) => {
-            let spots = spots_in(places, here.listed);
-            rules_in(
-                alloc,
-                unit,
-                spots,
-                here,
-                target,
-                numbers_in(own, here.listed),
-            )
+    match (unit, places) {
+        (Some(unit), Some(places)) => {
+            let rules = rules_in(alloc, unit, spots_in(places, listed), numbers)?;
+            in_places(rules)
         }
         _ => Ok(Vec::new(alloc)),
     }
@@ -310,7 +262,7 @@ fn number_of(label: Label) -> usize
     }
 }
 
-/// Those of a profile's own rules that decide a request.
+/// All of a profile's own rules that match a request and name some of what it asks for, whatever they say of it.
 fn accounting(
     alloc: Global,
     decided: Decided<'_>,
@@ -320,11 +272,11 @@ fn accounting(
 ) -> Result<Vec<Rule>, AllocError>
     ensures { IfOk result (λ rules. rules.items ≡ accounting decided.entry (changed_data own.now) label request.now) }
 {
-    let here = why_here(alloc, decided.policies, label, request)?;
-    let target = why_target(alloc, decided.policies, label, request)?;
+    let numbers = own_on(alloc, decided.policies, own, label, request)?;
     let number = number_of(label);
     let unit = unit_of(decided.units, decided.owners, number);
-    rules_by(alloc, unit, decided.places.get(number), own, &here, &target)
+    let places = decided.places.get(number);
+    rules_by(alloc, unit, places, listed_of(request), numbers.as_slice())
 }
 
 /// Those that are told.

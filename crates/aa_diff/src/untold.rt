@@ -1,19 +1,20 @@
-//! What isn't told where files are skipped, and which of them could tell.
+//! What isn't told: where files are skipped, and which of them could tell; and where patterns are too many.
 
-ghost use Rattle.std.specs.Prelude.{◌≡◌, ◌++◌, ◌∷◌, [], map, filter, flat_map, count_by, OnOk, IfOk, if◌then◌else◌};
+ghost use Rattle.std.specs.Prelude.{◌≡◌, ◌+◌, ◌++◌, ◌∷◌, [], min, map, filter, flat_map, count_by, OnOk, IfOk, if◌then◌else◌};
 ghost use Rattle.std.specs.List.{list_any};
 ghost use Rattle.aa_compile.specs.Labels.{first_profiles};
 ghost use Rattle.aa_passed_over.specs.Apart.{number_named};
 ghost use Rattle.aa_passed_over.specs.declared.apart.Side.TheVariants.{Old, New};
 ghost use Rattle.aa_skipping.specs.declared.unread.Head.{Head};
 ghost use Rattle.aa_undecided.specs.Answers.{placed, placed_all};
-ghost use Rattle.aa_diff.specs.Untold.{About, Free, Named, Others, about, untold, is_shown, is_some_file, untold_if, files_opening_in, files_opening, undecided_at, undecided_by, undecided_of, all_undecided, untold_of, untold_head, untold_others, untold_file, has_name, is_head, may_hold, files_holding_in, files_holding, untold_missing, all_not_compared, is_left_out, doubts_data, all_untold};
+ghost use Rattle.aa_diff.specs.Untold.{About, Free, Named, Others, about, untold, is_shown, is_some_file, untold_if, files_opening_in, files_opening, undecided_at, undecided_by, undecided_of, all_undecided, untold_of, untold_head, untold_others, untold_file, has_name, is_head, may_hold, files_holding_in, files_holding, untold_missing, all_not_compared, is_left_out, about_label, large, large_of, all_large, is_profiles, all_left_out, doubts_data, all_untold};
 
 use crate::options::Wanted;
 use crate::part::Part;
 use crate::report::is_named;
-use aa_compile::{Compiled, first_profiles};
-use aa_differences::label_is_open;
+use crate::signs::is_confined;
+use aa_compile::{Compiled, first_profiles, name_of_label};
+use aa_differences::{Excess, UntoldLabels, label_is_open};
 use aa_model::{Label, Profile};
 use aa_passed_over::{Side, number_named};
 use aa_skipped::Skipped;
@@ -40,6 +41,14 @@ pub struct Doubt {
     pub new: Vec<SkippedAt>,
 }
 
+/// Who isn't compared since the patterns at a label are too many together, or need more than so many states.
+#[derive(Drop)]
+pub struct TooLarge {
+    pub subject: Subject,
+    pub why: Excess,
+    pub limit: usize,
+}
+
 /// All that isn't told.
 #[derive(Drop)]
 pub struct Doubts {
@@ -47,7 +56,9 @@ pub struct Doubts {
     pub undecided: Vec<Doubt>,
     /// Profiles that a skipped file may hold.
     pub not_compared: Vec<Doubt>,
-    /// How many of these the old side reads.
+    /// Labels whose patterns are too many.
+    pub too_large: Vec<TooLarge>,
+    /// How many profiles of the old side aren't compared for either reason.
     pub left_out: usize,
     /// The files of the old side that are skipped.
     pub old: Vec<SkippedAt>,
@@ -476,19 +487,91 @@ fn count_left_out(new: Part<'_>, profiles: &[Profile]) -> usize
         .count()
 }
 
-/// All that isn't told of those who are wanted.
+/// Who has a label.
+fn subject_of(alloc: Global, policies: &[Compiled], label: Label) -> Result<Subject, AllocError>
+    ensures { IfOk result (λ s. about s ≡ about_label policies.now label) }
+{
+    match label {
+        Label::Unconfined(_) => Ok(Subject::Unconfined),
+        Label::Confined(_, _) => profile_named(alloc, name_of_label(policies, label)),
+    }
+}
+
+/// Adds who isn't compared since the patterns at labels are too many, where that is shown.
+fn push_large(
+    found: &mut Vec<TooLarge>,
+    alloc: Global,
+    wanted: Wanted<'_>,
+    policies: &[Compiled],
+    limit: usize,
+    labels: UntoldLabels,
+) -> Result<(), AllocError>
+    ensures { OnOk result (map large found.new.items ≡ map large found.old.items ++ large_of wanted.entry policies.now limit labels) }
+{
+    let subject = subject_of(alloc, policies, labels.from)?;
+    if is_shown(wanted, &subject) {
+        found.push(TooLarge {
+            subject,
+            why: labels.why,
+            limit,
+        })?;
+    }
+    Ok(())
+}
+
+/// Those who aren't compared since the patterns at these labels are too many.
+fn all_large(
+    alloc: Global,
+    wanted: Wanted<'_>,
+    policies: &[Compiled],
+    limit: usize,
+    untold: &[UntoldLabels],
+) -> Result<Vec<TooLarge>, AllocError>
+    ensures { IfOk result (λ found. map large found.items ≡ all_large wanted.entry policies.now limit untold.now) }
+{
+    let mut found = Vec::new(alloc);
+    for labels in untold {
+        push_large(&mut found, alloc, wanted, policies, limit, *labels)?;
+    }
+    Ok(found)
+}
+
+/// Whether labels are those of a profile.
+fn is_profiles(labels: &UntoldLabels) -> bool
+    ensures { result ≡ is_profiles labels.now }
+{
+    is_confined(labels.from)
+}
+
+fn count_profiles(untold: &[UntoldLabels]) -> usize
+    ensures { result ≡ count_by is_profiles untold.now }
+{
+    untold.iter().filter(|labels| is_profiles(labels)).count()
+}
+
+/// How many profiles of the old side aren't compared.
+fn all_left_out(old: Part<'_>, new: Part<'_>, untold: &[UntoldLabels]) -> usize
+    ensures { result ≡ all_left_out old.entry new.entry untold.now }
+{
+    count_left_out(new, first_profiles(old.decided.policies)).saturating_add(count_profiles(untold))
+}
+
+/// All that isn't told of those who are wanted, where at these labels differences can't be told by so many states.
 pub(crate) fn all_untold(
     alloc: Global,
     wanted: Wanted<'_>,
+    limit: usize,
     old: Part<'_>,
     new: Part<'_>,
+    untold: &[UntoldLabels],
 ) -> Result<Doubts, AllocError>
-    ensures { IfOk result (λ doubts. doubts_data doubts ≡ all_untold wanted.entry old.entry new.entry) }
+    ensures { IfOk result (λ doubts. doubts_data doubts ≡ all_untold wanted.entry limit old.entry new.entry untold.now) }
 {
     Ok(Doubts {
         undecided: all_undecided(alloc, wanted, old, new)?,
         not_compared: all_not_compared(alloc, wanted, old, new)?,
-        left_out: count_left_out(new, first_profiles(old.decided.policies)),
+        too_large: all_large(alloc, wanted, old.decided.policies, limit, untold)?,
+        left_out: all_left_out(old, new, untold),
         old: all_placed(alloc, old.skipped)?,
         new: all_placed(alloc, new.skipped)?,
     })

@@ -7,16 +7,17 @@ ghost use Rattle.aa_undecided.specs.Answers.{placed_data, placed_all};
 ghost use Rattle.aa_text.specs.Faults.{where_if};
 ghost use Rattle.aa_undecided.specs.Shown.{refused_at};
 ghost use Rattle.aa_undecided.specs.Jsons.{json_placed};
-ghost use Rattle.aa_diff.specs.Untold.{about, untold, doubts_data};
-ghost use Rattle.aa_diff.specs.UntoldShown.{about_text, skips_text, files_text, untold_words, untold_line, untold_text, skipped_text, json_who, json_files, json_untold, json_skipped, json_all_untold};
+ghost use Rattle.aa_diff.specs.Untold.{about, untold, large, doubts_data};
+ghost use Rattle.aa_diff.specs.UntoldShown.{about_text, skips_text, files_text, untold_words, untold_line, states_text, excess_text, large_words, large_line, untold_text, at_text, help_text, large_fault, skipped_text, json_who, json_files, json_untold, json_large, json_all_large, json_skipped, json_all_untold};
 
 use crate::printing::{push_more, side_text};
-use crate::untold::{Doubt, Doubts, Subject};
+use crate::untold::{Doubt, Doubts, Subject, TooLarge};
+use aa_differences::Excess;
 use aa_passed_over::Side;
 use aa_skipped::push_skipped_count;
 use aa_text::{
     PlaceAt, ToJson, push_json_bytes, push_key, push_list, push_list_member, push_name,
-    push_next_key, push_text, push_visible, push_where,
+    push_next_key, push_number, push_text, push_visible, push_where,
 };
 use aa_undecided::SkippedAt;
 use std::alloc::{AllocError, Global};
@@ -121,6 +122,60 @@ fn push_lines(
     Ok(())
 }
 
+/// Appends that patterns need too many states.
+#[tactic(auto, unfolding(crate::specs::UntoldShown::states_text))]
+fn push_states(out: &mut Vec<u8>, limit: usize) -> Result<(), AllocError>
+    ensures { OnOk result (out.new.items ≡ out.old.items ++ states_text limit) }
+{
+    push_text(out, "the patterns of OLD and NEW need more than ")?;
+    push_number(out, limit)?;
+    push_text(out, " states together")
+}
+
+/// Appends what there is too much of.
+fn push_excess(out: &mut Vec<u8>, why: Excess, limit: usize) -> Result<(), AllocError>
+    ensures { OnOk result (out.new.items ≡ out.old.items ++ excess_text why limit) }
+{
+    match why {
+        Excess::Patterns => push_text(out, "OLD and NEW have more than 65535 patterns together"),
+        Excess::States => push_states(out, limit),
+    }
+}
+
+/// Appends who isn't compared, and why.
+#[tactic(auto, unfolding(crate::specs::UntoldShown::large_words))]
+pub(crate) fn push_large_words(
+    out: &mut Vec<u8>,
+    alloc: Global,
+    one: &TooLarge,
+) -> Result<(), AllocError>
+    ensures { OnOk result (out.new.items ≡ out.old.items ++ large_words (large one.now)) }
+{
+    push_about(out, alloc, &one.subject)?;
+    push_text(out, " not compared: ")?;
+    push_excess(out, one.why, one.limit)
+}
+
+fn push_large_line(out: &mut Vec<u8>, alloc: Global, one: &TooLarge) -> Result<(), AllocError>
+    ensures { OnOk result (out.new.items ≡ out.old.items ++ large_line (large one.now)) }
+{
+    push_large_words(out, alloc, one)?;
+    push_text(out, "\n")
+}
+
+fn push_large_lines(
+    out: &mut Vec<u8>,
+    alloc: Global,
+    too_large: &[TooLarge],
+) -> Result<(), AllocError>
+    ensures { OnOk result (out.new.items ≡ out.old.items ++ flat_map large_line (map large too_large.now)) }
+{
+    for one in too_large {
+        push_large_line(out, alloc, one)?;
+    }
+    Ok(())
+}
+
 /// Appends at which labels something is undecided, and which profiles aren't compared.
 pub(crate) fn push_untold(
     out: &mut Vec<u8>,
@@ -135,7 +190,63 @@ pub(crate) fn push_untold(
         alloc,
         " not compared: ",
         doubts.not_compared.as_slice(),
-    )
+    )?;
+    push_large_lines(out, alloc, doubts.too_large.as_slice())
+}
+
+fn push_at_profile(out: &mut Vec<u8>, alloc: Global, name: &[u8]) -> Result<(), AllocError>
+    ensures { OnOk result (out.new.items ≡ out.old.items ++ (codes "label " ++ value name.now)) }
+{
+    push_text(out, "label ")?;
+    push_name(out, alloc, name)
+}
+
+/// Appends at which label.
+fn push_at(out: &mut Vec<u8>, alloc: Global, subject: &Subject) -> Result<(), AllocError>
+    ensures { OnOk result (out.new.items ≡ out.old.items ++ at_text (about subject.now)) }
+{
+    match subject {
+        Subject::Unconfined => push_text(out, "unconfined"),
+        Subject::Profile(name) => push_at_profile(out, alloc, name.as_slice()),
+        Subject::Others => push_text(out, "other labels"),
+    }
+}
+
+/// What helps where there is too much of something.
+fn help_text(why: Excess) -> &'static str
+    ensures { result.now ≡ help_text why }
+{
+    match why {
+        Excess::Patterns => "",
+        Excess::States => "; --states allows more",
+    }
+}
+
+/// Appends who isn't compared, and why, as a fault.
+#[tactic(auto, unfolding(crate::specs::UntoldShown::large_fault))]
+fn push_large_fault(out: &mut Vec<u8>, alloc: Global, one: &TooLarge) -> Result<(), AllocError>
+    ensures { OnOk result (out.new.items ≡ out.old.items ++ large_fault (large one.now)) }
+{
+    push_text(out, "error: at ")?;
+    push_at(out, alloc, &one.subject)?;
+    push_text(out, " ")?;
+    push_excess(out, one.why, one.limit)?;
+    push_text(out, help_text(one.why))?;
+    push_text(out, "\n")
+}
+
+/// Appends those who aren't compared, and why, as faults.
+pub(crate) fn push_large_faults(
+    out: &mut Vec<u8>,
+    alloc: Global,
+    too_large: &[TooLarge],
+) -> Result<(), AllocError>
+    ensures { OnOk result (out.new.items ≡ out.old.items ++ flat_map large_fault (map large too_large.now)) }
+{
+    for one in too_large {
+        push_large_fault(out, alloc, one)?;
+    }
+    Ok(())
 }
 
 /// How many files there are on both sides.
@@ -204,6 +315,42 @@ impl ToJson for Doubt {
     }
 }
 
+impl ToJson for TooLarge {
+    ghost use Rattle.aa_diff.specs.Untold.{large};
+    ghost use Rattle.aa_diff.specs.UntoldShown.{json_large};
+
+    ghost json = { λ x. json_large (large x) };
+
+    fn push_json(&self, out: &mut Vec<u8>, alloc: Global) -> Result<(), AllocError> {
+        push_json_who(out, alloc, &self.subject)
+    }
+}
+
+fn push_large_list(
+    out: &mut Vec<u8>,
+    alloc: Global,
+    too_large: &[TooLarge],
+) -> Result<(), AllocError>
+    ensures { OnOk result (out.new.items ≡ out.old.items ++ member_text (codes "untold") (list_text (map json_large (map large too_large.now)))) }
+{
+    push_list_member(out, alloc, "untold", too_large)?;
+    Ok(())
+}
+
+/// Appends a member with those whose patterns are too many, if there are some.
+fn push_large_member(
+    out: &mut Vec<u8>,
+    alloc: Global,
+    too_large: &[TooLarge],
+) -> Result<(), AllocError>
+    ensures { OnOk result (out.new.items ≡ out.old.items ++ json_all_large (map large too_large.now)) }
+{
+    match too_large {
+        [] => Ok(()),
+        [_, ..] => push_large_list(out, alloc, too_large),
+    }
+}
+
 fn push_doubts_member(
     out: &mut Vec<u8>,
     alloc: Global,
@@ -264,5 +411,6 @@ pub(crate) fn push_json_untold(
 {
     push_doubts_member(out, alloc, "undecided", doubts.undecided.as_slice())?;
     push_doubts_member(out, alloc, "not_compared", doubts.not_compared.as_slice())?;
+    push_large_member(out, alloc, doubts.too_large.as_slice())?;
     push_skipped_member(out, alloc, doubts.old.as_slice(), doubts.new.as_slice())
 }

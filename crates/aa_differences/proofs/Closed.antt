@@ -1,5 +1,5 @@
 -- Where profiles that weren't read could change nothing at a label, no request is undecided there.
-use Rattle.std.proofs.Common.{◌≡◌, ℕ, List, [], ◌∷◌, ◌++◌, map, length, drop, Bool, true, false, true≢false, cond, Option, Some, None, refl, sym, ap, subst, ◌∙◌, Contains, append_assoc}
+use Rattle.std.proofs.Common.{◌≡◌, ℕ, List, [], ◌∷◌, ◌++◌, map, length, drop, Bool, true, false, true≢false, cond, Option, Some, None, refl, sym, ap, subst, ◌∙◌, Contains}
 use Rattle.std.specs.Prelude.{not, ◌&&◌, ◌||◌, ◌==◌, is_some, codes, if◌then◌else◌}
 use Rattle.std.specs.Bool.{nat_eq}
 use Rattle.std.specs.Option.{option_map_or}
@@ -17,7 +17,6 @@ use Rattle.aa_model.specs.declared.rule.Exec.{Exec}
 use Rattle.aa_model.specs.declared.rule.FileRule.{FileRule}
 use Rattle.aa_model.specs.declared.rule.ChangeRule.{ChangeRule}
 use Rattle.aa_model.specs.declared.policy.Profile.{Profile}
-use Rattle.aa_model.specs.declared.label.Label.{Label}
 use Rattle.aa_model.specs.declared.label.Label.TheVariants.{Unconfined, Confined}
 use Rattle.aa_model.specs.declared.request.Request.{Request}
 use Rattle.aa_model.specs.declared.request.Request.TheVariants as asks
@@ -31,7 +30,7 @@ use Rattle.aa_compile.proofs.ConflictLemmas.{in_head}
 use Rattle.aa_skipping.specs.declared.unread.Head.{Head}
 use Rattle.aa_skipping.specs.declared.unread.Unread.{Unread}
 use Rattle.aa_skipping.specs.Searches.{has_rival}
-use Rattle.aa_skipping.specs.Names.{behind, is_end, is_of, may_be_unread, is_doubtful}
+use Rattle.aa_skipping.specs.Names.{is_end, is_of, may_be_unread, is_doubtful}
 use Rattle.aa_skipping.specs.Undecided.{is_unsure, is_unsure_way, undecided_exec, is_doubtful_label, holds_with, lets_change, undecided_in, undecided_free, undecided}
 use Rattle.aa_skipping.proofs.Elements.{in_filter, in_any, any_in}
 use Rattle.aa_quantifiers.proofs.Growing.{fails, left, right, both, or_grows, any_grows}

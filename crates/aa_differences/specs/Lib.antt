@@ -5,6 +5,7 @@ pub use Rattle.aa_unclean_paths.specs.Requests
 pub use Rattle.aa_machine.specs.Run
 pub mod Same
 pub mod Differences
+pub mod Faults
 pub mod Sameness
 pub mod Pairs
 pub mod Openings

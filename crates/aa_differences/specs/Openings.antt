@@ -1,6 +1,6 @@
 -- Labels at which profiles that weren't read could change what is answered.
 -- Source: own.
-use Rattle.std.specs.Prelude.{◌≡◌, ℕ, List, [], map, Bool, true, false, not, ◌&&◌, ◌||◌, Option, Some, None, if◌then◌else◌}
+use Rattle.std.specs.Prelude.{◌≡◌, List, [], map, Bool, true, false, not, ◌&&◌, ◌||◌, Option, Some, None, if◌then◌else◌}
 use Rattle.std.specs.Option.{option_map_or}
 use Rattle.std.specs.List.{list_any, slice_get}
 use Rattle.aa_pattern.specs.declared.item.Item.{Byte}

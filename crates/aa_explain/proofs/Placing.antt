@@ -14,7 +14,8 @@ use Rattle.aa_rules.specs.Reading.{rest_of}
 use Rattle.aa_rules.proofs.Places.{here}
 use Rattle.aa_policy.specs.Bodies.{if_any}
 use Rattle.aa_explain.specs.declared.places.Extent.{Extent}
-use Rattle.aa_explain.specs.Places.{PlacedRule, PlacedFamily, PlacesData, family_row, with_rules, first_spot, if_file, if_cap, if_net, if_change, if_passed_over, EndsAt}
+use Rattle.aa_explain.specs.Heads.{first_spot}
+use Rattle.aa_explain.specs.Places.{PlacedRule, PlacedFamily, PlacesData, family_row, with_rules, if_file, if_cap, if_net, if_change, if_passed_over, EndsAt}
 
 -- ---- elements
 
@@ -39,41 +40,51 @@ goes_end Is Ends ws found rest after h goes = rw (← append-nil found) (goes.on
 pub stands_first : (words : List Word) (at : ℕ) (d : Word) → at < length words → first_spot (rest_of words at) ≡ Some (spot_of (word_data (get_or words at d)))
 stands_first words at d h = ap first_spot (here words at (get_or words at d) h (get_or_default words at d (get_or words at d) h))
 
--- and the last of the words up to a place is the word before that
-pub ends_at : (words : List Word) (at next : ℕ) (d : Word) → at < next → next ≤ length words → EndsAt (rest_of words at) (get_or words (next - 1) d).span.end (rest_of words next)
-ends_at words at next d h k =
+-- the words up to a place are those before the word before it, that word, and the rest
+pub split_before : (words : List Word) (at next : ℕ) (d : Word) → at < next → next ≤ length words
+    → rest_of words at ≡ words_data (slice_range words at (next - 1)) ++ word_data (get_or words (next - 1) d) ∷ rest_of words next
+split_before words at next d h k =
     let front : List Word = slice_range words at (next - 1) in
     let w : Word = get_or words (next - 1) d in
     let within : next - 1 < length words = omega (arith, h, k) in
-    let last : next - 1 + 1 ≡ next = omega (arith, h) in record {
-      front = words_data front;
-      last = word_data w;
-      words = ap words_data (drop_split words at (next - 1) (omega (arith, h))) ∙ map-append word_data front (drop (next - 1) words)
-          ∙ ap (λ (l : List WordData). words_data front ++ l) (here words (next - 1) w within (get_or_default words (next - 1) d w within) ∙ ap (λ (n : ℕ). word_data w ∷ rest_of words n) last);
-      ends = refl;
-    }
+    let last : next - 1 + 1 ≡ next = omega (arith, h) in
+    ap words_data (drop_split words at (next - 1) (omega (arith, h))) ∙ map-append word_data front (drop (next - 1) words)
+    ∙ ap (λ (l : List WordData). words_data front ++ l)
+    (here words (next - 1) w within (get_or_default words (next - 1) d w within) ∙ ap (λ (n : ℕ). word_data w ∷ rest_of words n) last)
+
+-- and the last of them is the word before that
+pub ends_at : (words : List Word) (at next : ℕ) (d : Word) → at < next → next ≤ length words
+    → EndsAt (rest_of words at) (get_or words (next - 1) d).span.end (rest_of words next)
+ends_at words at next d h k = record {
+  front = words_data (slice_range words at (next - 1));
+  last = word_data (get_or words (next - 1) d);
+  words = split_before words at next d h k;
+  ends = refl;
+}
 
 joined_lists : {X A : Type 0} (f : X → List A) (old : List A) (xs ys : List X) → (old ++ flat_map f xs) ++ flat_map f ys ≡ old ++ flat_map f (xs ++ ys)
 joined_lists {X} {A} f old xs ys = append_assoc old (flat_map f xs) (flat_map f ys) ∙ ap (λ (l : List A). old ++ l) (sym (flat_map-append f xs ys))
 
-abbrev placed : Spot → List Spot → List Spot → List Spot → List Spot → List Extent → PlacesData
-placed at files caps nets changes passed_over = record { at = at; files = files; caps = caps; nets = nets; changes = changes; passed_over = passed_over }
+abbrev placed : Spot → Extent → List Extent → List Spot → List Spot → List Spot → List Spot → List Extent → PlacesData
+placed at head flags files caps nets changes passed_over =
+    record { at = at; head = head; flags = flags; files = files; caps = caps; nets = nets; changes = changes; passed_over = passed_over }
 
-same_places : (at : Spot) (a b c d w x y z : List Spot) (m n : List Extent) → a ≡ w → b ≡ x → c ≡ y → d ≡ z → m ≡ n → placed at a b c d m ≡ placed at w x y z n
-same_places at a b c d w x y z m n e f g h i =
-    ap (λ (l : List Spot). placed at l b c d m) e ∙ ap (λ (l : List Spot). placed at w l c d m) f ∙ ap (λ (l : List Spot). placed at w x l d m) g ∙ ap (λ (l : List Spot). placed at w x y l m) h
-    ∙ ap (placed at w x y z) i
+same_places : (at : Spot) (o : Extent) (p : List Extent) (a b c d w x y z : List Spot) (m n : List Extent)
+    → a ≡ w → b ≡ x → c ≡ y → d ≡ z → m ≡ n → placed at o p a b c d m ≡ placed at o p w x y z n
+same_places at o p a b c d w x y z m n e f g h i =
+    ap (λ (l : List Spot). placed at o p l b c d m) e ∙ ap (λ (l : List Spot). placed at o p w l c d m) f ∙ ap (λ (l : List Spot). placed at o p w x l d m) g
+    ∙ ap (λ (l : List Spot). placed at o p w x y l m) h ∙ ap (placed at o p w x y z) i
 
 -- no rule adds nothing
 pub with_none : (p : PlacesData) → p ≡ with_rules p []
 unfolding with_rules
-with_none p = sym (same_places p.at _ _ _ _ p.files p.caps p.nets p.changes _ p.passed_over
+with_none p = sym (same_places p.at p.head p.flags _ _ _ _ p.files p.caps p.nets p.changes _ p.passed_over
     (append-nil p.files) (append-nil p.caps) (append-nil p.nets) (append-nil p.changes) (append-nil p.passed_over))
 
 -- rules behind rules
 pub with_both : (p : PlacesData) (rs ss : List PlacedRule) → with_rules (with_rules p rs) ss ≡ with_rules p (rs ++ ss)
 unfolding with_rules
-with_both p rs ss = same_places p.at _ _ _ _ _ _ _ _ _ _
+with_both p rs ss = same_places p.at p.head p.flags _ _ _ _ _ _ _ _ _ _
     (joined_lists (λ (r : PlacedRule). if_file r.at r.rule) p.files rs ss) (joined_lists (λ (r : PlacedRule). if_cap r.at r.rule) p.caps rs ss)
     (joined_lists (λ (r : PlacedRule). if_net r.at r.rule) p.nets rs ss) (joined_lists (λ (r : PlacedRule). if_change r.at r.rule) p.changes rs ss)
     (joined_lists (λ (r : PlacedRule). if_passed_over r.at r.end r.rule) p.passed_over rs ss)

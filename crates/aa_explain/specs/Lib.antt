@@ -4,5 +4,6 @@ pub use Rattle.aa_auto.specs.Tables
 pub mod Deciders
 pub mod Sayings
 pub mod Told
+pub mod Heads
 pub mod Places
 pub mod Clashes

@@ -3,11 +3,12 @@
 use Rattle.std.specs.Prelude.{ℕ, ◌≡◌, List, [], ◌∷◌, ◌++◌, map, flat_map, Option, Some, None, IsSome, true, false}
 use Rattle.aa_base.specs.declared.fault.Spot.{Spot}
 use Rattle.aa_words.specs.Splits.{WordData}
-use Rattle.aa_rules.specs.Grammar.{Production, Many, IsRule, Closes, IsEnd, spot_of}
+use Rattle.aa_rules.specs.Grammar.{Production, Many, IsRule, Closes, IsEnd}
 use Rattle.aa_rules.specs.Reading.{RuleData, OnFile, OnCap, OnNet, OnChange, Listed}
 use Rattle.aa_policy.specs.Heads.{HeadData, IsHead}
 use Rattle.aa_policy.specs.Preamble.{PreambleData, IsAbi, IsPreamble, variables_of}
 use Rattle.aa_policy.specs.Bodies.{if_any}
+use Rattle.aa_explain.specs.Heads.{first_spot, IsPlacedHead}
 use Rattle.aa_explain.specs.declared.places.Extent.{Extent}
 use Rattle.aa_explain.specs.declared.places.ProfilePlaces.{ProfilePlaces}
 
@@ -19,20 +20,17 @@ pub record PlacedRule : Type 0 where
   pub end : ℕ
   pub rule : RuleData
 
--- a profile as written: its head, and its own rules in order
+-- a profile as written: its head, where that stands up to its brace, its flags without effect, and its own rules in order
 pub record PlacedProfile : Type 0 where
   pub head : HeadData
+  pub place : Extent
+  pub flags : List Extent
   pub rules : List PlacedRule
 
 -- a top-level profile, and its children in order
 pub record PlacedFamily : Type 0 where
   pub own : PlacedProfile
   pub children : List PlacedProfile
-
--- where the first of some words stands
-abbrev pub first_spot : List WordData → Option Spot
-first_spot [] = None
-first_spot (w ∷ ws) = Some (spot_of w)
 
 -- the last word before the rest ends at that byte
 pub record EndsAt (ws : List WordData) (end : ℕ) (rest : List WordData) : Type 0 where
@@ -51,6 +49,7 @@ pub record IsPlacedChild (ws : List WordData) (child : PlacedProfile) (rest : Li
   pub after : List WordData
   pub statements : List (Option PlacedRule)
   pub head_stands : IsHead false ws child.head after
+  pub head_placed : IsPlacedHead ws child.place child.flags after
   pub body_stands : Many IsPlacedStatement Closes after statements rest
   pub rules_are : child.rules ≡ flat_map if_any statements
 
@@ -79,6 +78,7 @@ pub record IsPlacedFamily (ws : List WordData) (family : PlacedFamily) (rest : L
   pub after : List WordData
   pub parts : List PlacedPart
   pub head_stands : IsHead true ws family.own.head after
+  pub head_placed : IsPlacedHead ws family.own.place family.own.flags after
   pub body_stands : Many IsPlacedPart Closes after parts rest
   pub rules_are : family.own.rules ≡ flat_map rules_in parts
   pub children_are : family.children ≡ flat_map children_in parts
@@ -104,9 +104,11 @@ pub record IsPlacedPolicy (ws : List WordData) (profiles : List PlacedProfile) :
 
 -- ---- the places by the kinds of rules
 
--- where a profile's name stands, and where its rules of each kind stand, in their order
+-- where a profile's name stands, its head, its flags without effect, and its rules of each kind, in their order
 pub record PlacesData : Type 0 where
   pub at : Spot
+  pub head : Extent
+  pub flags : List Extent
   pub files : List Spot
   pub caps : List Spot
   pub nets : List Spot
@@ -157,6 +159,8 @@ if_passed_over at end (Listed keyword) = record { at = at; end = end } ∷ []
 unfoldable pub with_rules : PlacesData → List PlacedRule → PlacesData
 with_rules p rules = record {
   at = p.at;
+  head = p.head;
+  flags = p.flags;
   files = p.files ++ flat_map (λ (r : PlacedRule). if_file r.at r.rule) rules;
   caps = p.caps ++ flat_map (λ (r : PlacedRule). if_cap r.at r.rule) rules;
   nets = p.nets ++ flat_map (λ (r : PlacedRule). if_net r.at r.rule) rules;
@@ -165,16 +169,25 @@ with_rules p rules = record {
 }
 
 -- the places of a profile without rules
-abbrev pub no_places : Spot → PlacesData
-no_places at = record { at = at; files = []; caps = []; nets = []; changes = []; passed_over = [] }
+abbrev pub no_places : Spot → Extent → List Extent → PlacesData
+no_places at head flags = record { at = at; head = head; flags = flags; files = []; caps = []; nets = []; changes = []; passed_over = [] }
 
--- where a profile's name and its rules stand
+-- where a profile's name, its head with its flags, and its rules stand
 abbrev pub places_of : PlacedProfile → PlacesData
-places_of p = with_rules (no_places p.head.title.at) p.rules
+places_of p = with_rules (no_places p.head.title.at p.place p.flags) p.rules
 
 -- the same of what the code keeps
 abbrev pub places_data : ProfilePlaces → PlacesData
-places_data p = record { at = p.at; files = p.files.items; caps = p.caps.items; nets = p.nets.items; changes = p.changes.items; passed_over = p.passed_over.items }
+places_data p = record {
+  at = p.at;
+  head = p.head;
+  flags = p.flags.items;
+  files = p.files.items;
+  caps = p.caps.items;
+  nets = p.nets.items;
+  changes = p.changes.items;
+  passed_over = p.passed_over.items;
+}
 
 -- the places of the profiles that the words spell, in their order
 abbrev pub ArePlaces : List WordData → List PlacesData → Type 0

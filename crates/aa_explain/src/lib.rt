@@ -2,6 +2,7 @@
 #![tactic(auto)]
 
 mod deciders;
+mod heads;
 mod pairs;
 mod places;
 mod search;

@@ -1,4 +1,4 @@
-//! Where the profiles of a policy and their rules stand.
+//! Where the profiles of a policy with their heads and their rules stand.
 
 ghost use Rattle.std.specs.Prelude.{◌≡◌, ◌<◌, ◌≤◌, ◌++◌, ◌∷◌, [], List, Option, Some, length, map, flat_map, OnOk, IfOk};
 ghost use Rattle.aa_base.specs.Kinds.{IsRefusal};
@@ -7,15 +7,17 @@ ghost use Rattle.aa_words.specs.Splits.{WordData, words_data};
 ghost use Rattle.aa_rules.specs.Grammar.{Many, Closes};
 ghost use Rattle.aa_rules.specs.Reading.{RuleData, rest_of, rule_data};
 ghost use Rattle.aa_policy.specs.Bodies.{ChildData, FamilyData, PartData, ProfileData, IsStatement, IsChild, IsBodyPart, IsProfile, IsItem, IsPolicy, if_any};
-ghost use Rattle.aa_explain.specs.Places.{PlacedRule, EndsAt, first_spot, PlacedProfile, PlacedPart, PlacedFamily, IsPlacedStatement, IsPlacedChild, IsPlacedPart, IsPlacedFamily, IsPlacedItem, rules_in, children_in, family_row, with_rules, no_places, places_of, places_data, ArePlaces};
+ghost use Rattle.aa_explain.specs.Heads.{first_spot};
+ghost use Rattle.aa_explain.specs.Places.{PlacedRule, EndsAt, PlacedProfile, PlacedPart, PlacedFamily, IsPlacedStatement, IsPlacedChild, IsPlacedPart, IsPlacedFamily, IsPlacedItem, rules_in, children_in, family_row, with_rules, no_places, places_of, places_data, ArePlaces};
 
+use crate::heads::{PlacedHead, placed_head};
 use aa_base::{PolicyFault, Spot};
 use aa_policy::{abi_of, begins_profile, head_of, preamble_of};
 use aa_rules::{RuleTree, closes, keyword_stands, rule_of, spot_of};
 use aa_words::{Word, WordList};
 use std::alloc::{AllocError, Global};
 
-/// Where a rule begins, and the byte behind its last word in the same reading of a file.
+/// Where a rule begins, and the byte behind its last word in the same reading of a file. So of a head, up to its opening brace, and of a flag.
 #[derive(Clone, Copy, Debug)]
 pub struct Extent {
     pub at: Spot,
@@ -31,6 +33,10 @@ pub struct ProfilePlaces<'s> {
     pub parent: Option<usize>,
     /// Where its name stands.
     pub at: Spot,
+    /// Where its head stands, up to its opening brace.
+    pub head: Extent,
+    /// Those of its flags that have no effect.
+    pub flags: Vec<Extent>,
     pub files: Vec<Spot>,
     pub caps: Vec<Spot>,
     pub nets: Vec<Spot>,
@@ -38,13 +44,22 @@ pub struct ProfilePlaces<'s> {
     pub passed_over: Vec<Extent>,
 }
 
-fn no_rules<'s>(alloc: Global, name: &'s [u8], parent: Option<usize>, at: Spot) -> ProfilePlaces<'s>
-    ensures { places_data result ≡ no_places at }
+fn no_rules<'s>(
+    alloc: Global,
+    name: &'s [u8],
+    parent: Option<usize>,
+    at: Spot,
+    head: PlacedHead,
+) -> ProfilePlaces<'s>
+    ensures { places_data result ≡ no_places at head.place head.flags.items }
 {
+    let PlacedHead { place, flags } = head;
     ProfilePlaces {
         name,
         parent,
         at,
+        head: place,
+        flags,
         files: Vec::new(alloc),
         caps: Vec::new(alloc),
         nets: Vec::new(alloc),
@@ -139,7 +154,8 @@ fn child_at<'s>(
     ensures within { IfOk result (λ r. (at < r.1) × (r.1 ≤ length words.now)) }
 {
     let (head, body) = head_of(words, at, false, end)?;
-    let mut places = no_rules(alloc, head.title.name, Some(parent), head.title.at);
+    let placed = placed_head(alloc, words, at, body)?;
+    let mut places = no_rules(alloc, head.title.name, Some(parent), head.title.at, placed);
     let next = push_child_body(words, body, end, &mut places)?;
     Ok((places, next))
 }
@@ -211,8 +227,9 @@ fn family_at<'s>(
     ensures within { IfOk result (λ r. (at < r.1) × (r.1 ≤ length words.now)) }
 {
     let (head, body) = head_of(words, at, true, end)?;
+    let placed = placed_head(alloc, words, at, body)?;
     let mut family = Family {
-        own: no_rules(alloc, head.title.name, None, head.title.at),
+        own: no_rules(alloc, head.title.name, None, head.title.at, placed),
         children: Vec::new(alloc),
     };
     let next = push_body(alloc, words, body, end, number, &mut family)?;
@@ -268,8 +285,8 @@ fn places_in<'s>(
     Ok(found)
 }
 
-/// Where the profiles that words spell stand, in the order in which a policy numbers them, and where their rules stand, each list in
-/// the order of the policy's.
+/// Where the profiles that words spell stand, in the order in which a policy numbers them, and where their heads and their rules stand,
+/// each list in the order of the policy's.
 pub fn rule_places<'s>(
     alloc: Global,
     list: &WordList<'s>,

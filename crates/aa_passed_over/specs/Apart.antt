@@ -1,4 +1,4 @@
--- The rules that are passed over and that one of two policies alone has. A rule that stands twice permits no more than one, so each text counts once.
+-- The rules that are passed over, and the flags without effect, that one of two policies alone has. One that stands twice permits no more than one, so each text counts once.
 -- Source: own.
 use Rattle.std.specs.Prelude.{ℕ, ◌≡◌, List, [], ◌∷◌, ◌++◌, map, flat_map, Bool, if◌then◌else◌, Option, Some, is_some, Vec}
 use Rattle.std.specs.Global.{Global}
@@ -70,7 +70,7 @@ apart_by d e _ _ = []
 abbrev pub apart_of : Decided → Decided → Profile → List ApartRule
 apart_of d e p = apart_by d e (number_named d.policies.now p.name) (number_named e.policies.now p.name)
 
--- the rules that are passed over and that one policy alone has, of all profiles that both have
+-- the flags without effect and the rules that are passed over that one policy alone has, of all profiles that both have
 abbrev pub all_apart : Decided → Decided → List ApartRule
 all_apart d e = flat_map (apart_of d e) (first_profiles d.policies.now)
 

@@ -1,4 +1,4 @@
-//! The rules that are passed over and that one of two policies alone has.
+//! The rules that are passed over, and the flags without effect, that one of two policies alone has.
 
 ghost use Rattle.std.specs.Prelude.{◌≡◌, ◌++◌, ◌∷◌, List, ℕ, map, flat_map, OnOk, IfOk};
 ghost use Rattle.aa_passed_over.specs.Listed.{Listed, listed};
@@ -18,7 +18,7 @@ pub enum Side {
     New,
 }
 
-/// A rule that is passed over and that one of two policies alone has.
+/// A rule that is passed over, or a flag without effect, that one of two policies alone has.
 #[derive(Drop)]
 pub struct Apart {
     /// The number of its profile in the old policy.
@@ -177,8 +177,8 @@ fn push_apart_of(
     push_apart_by(alloc, old, new, from, to, found)
 }
 
-/// The rules that are passed over and that one policy alone has, of all profiles that both have: profile by profile, those of the old policy
-/// before those of the new one, each in the order in which it is read.
+/// The flags without effect and the rules that are passed over that one policy alone has, of all profiles that both have: profile by profile,
+/// those of the old policy before those of the new one, each in the order in which it is read.
 pub fn rules_apart(
     alloc: Global,
     old: Decided<'_>,

@@ -1,4 +1,4 @@
-//! The rules of policy files that are passed over, as they read: they decide nothing, but somebody who compares two policies must see which of them one alone has.
+//! The rules of policy files that are passed over and flags without effect, as they read: they decide nothing, but somebody who compares two policies must see which of them one alone has.
 #![tactic(auto)]
 
 mod apart;

@@ -8,3 +8,4 @@ pub mod Drawing
 mod Turning
 mod Shutting
 mod Sounds
+mod Enforcing

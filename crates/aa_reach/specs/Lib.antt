@@ -10,3 +10,4 @@ pub mod Html
 pub mod Command
 pub mod Laws
 pub mod Holding
+pub mod Enforced

@@ -2,6 +2,7 @@
 
 ghost use Rattle.aa_reach.specs.Laws.{WordsLead};
 ghost use Rattle.aa_reach.specs.Holding.{LabelsHold};
+ghost use Rattle.aa_reach.specs.Enforced.{StepsEnforced, SearchesEnforced, EdgesEnforced};
 
 use aa_differences::closed_labels_are_decided;
 use aa_skipped::each_file_decides;
@@ -22,3 +23,12 @@ pub fn labels_are_sound()
     closed_labels_are_decided();
     each_file_decides()
 }
+
+/// Where complain mode moves no task, as `--as-enforced` wants it, a request leads where the mediator leads by the policies whose complain flags
+/// are cleared, with the same labels, rules and attachments; so what is found by these as they are is the same, where no file is skipped. It
+/// does nothing: its contract is a law of the definitions.
+pub fn searches_are_enforced()
+    ensures steps { StepsEnforced }
+    ensures searches { SearchesEnforced }
+    ensures edges { EdgesEnforced }
+{}

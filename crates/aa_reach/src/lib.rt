@@ -19,4 +19,4 @@ mod searching;
 mod shown;
 
 pub use command::{ReachOptions, reach_files};
-pub use laws::{labels_are_sound, words_lead};
+pub use laws::{labels_are_sound, searches_are_enforced, words_lead};

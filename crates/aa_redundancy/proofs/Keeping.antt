@@ -1,18 +1,16 @@
 -- Places that are kept beside one, one more or one less.
-use Rattle.std.proofs.Common.{◌≡◌, ◌≢◌, ℕ, zero, suc, ◌+◌, ◌<◌, ◌≤◌, List, [], ◌∷◌, ◌++◌, length, take}
+use Rattle.std.proofs.Common.{◌≡◌, ◌≢◌, ℕ, zero, suc, ◌+◌, ◌<◌, List, [], ◌∷◌, ◌++◌, length, take}
 use Rattle.std.proofs.Common.{set, get_or, Bool, true, false, true≢false, not, cond, refl, sym, ap, ◌∙◌, subst, arith, ⊎_elim}
-use Rattle.std.specs.Prelude.{◌==◌, ◌&&◌, ◌||◌}
-use Rattle.std.specs.List.{list_any}
+use Rattle.std.specs.Prelude.{◌==◌, ◌||◌}
 use Rattle.std.proofs.Math.Bool.{or-false}
-use Rattle.std.proofs.lemmas.Bool.{cases_lt, cases_Bool, eqb-true}
+use Rattle.std.proofs.lemmas.Bool.{cases_Bool}
 use Rattle.std.proofs.lemmas.Bool.Decides.{eqb_tells}
-use Rattle.std.proofs.lemmas.List.{length-set, get_or-set_same, get_or-set_other, get_or_past, take_more}
+use Rattle.std.proofs.lemmas.List.{get_or-set_same, get_or-set_other, take_more}
 use Rattle.std.proofs.lemmas.List.Folds.{list_any-append}
-use Rattle.std.proofs.lemmas.List.Sums.{sum_by-set}
 use Rattle.aa_redundancy.specs.declared.beside.Beside.{Beside}
 use Rattle.aa_redundancy.specs.Without.{marked, gone_by}
-use Rattle.aa_redundancy.specs.Reasons.{is_one_of, and_one, but_one, others_than}
-use Rattle.aa_redundancy.specs.Keeping.{AllMarked, NoneMarkedOf, KeepsNone, Keeps, StayKept, unmarked}
+use Rattle.aa_redundancy.specs.Reasons.{is_one_of, and_one, others_than}
+use Rattle.aa_redundancy.specs.Keeping.{NoneMarkedOf, Keeps}
 
 pub at_set : (flags : List Bool) (i : ℕ) (v : Bool) → i < length flags → (n : ℕ) → marked (set flags i v) n ≡ cond (n == i) v (marked flags n)
 at_set flags i v lt n =

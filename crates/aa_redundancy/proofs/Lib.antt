@@ -10,6 +10,8 @@ mod Mentioning
 mod Marking
 mod Positions
 mod Placing
+mod Singles
+mod Untold
 mod Sparing
 mod Keeping
 mod Reasoning

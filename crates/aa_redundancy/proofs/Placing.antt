@@ -1,7 +1,5 @@
 -- Tables by the places of rules.
-use Rattle.std.proofs.Common.{◌≡◌, ◌⊎◌, ℕ, ◌+◌, ◌<◌, ◌≤◌, List, [], ◌∷◌, ◌++◌, map, Bool, true, false, Option, Some, None, sym, ap, ◌∙◌, subst, arith, refl, Contains, ⊎_elim}
-use Rattle.std.specs.List.{slice_get}
-use Rattle.std.proofs.lemmas.Bool.{cases_lt}
+use Rattle.std.proofs.Common.{◌≡◌, ◌⊎◌, ℕ, List, [], ◌∷◌, ◌++◌, map, Bool, true, false, Option, Some, None, sym, ap, ◌∙◌, subst, refl, Contains, ⊎_elim}
 use Rattle.std.proofs.lemmas.List.Elements.{Contains-append_left, Contains-append_right, Contains-append_cases}
 use Rattle.aa_model.specs.Lawful.{has_exec}
 use Rattle.aa_model.specs.declared.policy.Profile.{Profile}
@@ -23,7 +21,7 @@ use Rattle.aa_redundancy.specs.declared.places.PlaceNumbers.{PlaceNumbers}
 use Rattle.aa_redundancy.specs.Rights.{rights}
 use Rattle.aa_redundancy.specs.Marks.{sets_of, choice_of, sets_by, choice_by, choose, chosen_by, led, said_by}
 use Rattle.aa_redundancy.specs.Tables.{Relation, Equal, none_gone, TableRelated, SameTables, Decides, AllDecide}
-use Rattle.aa_redundancy.specs.Places.{gone_at, at_place, SameProfile, ProfileAlike, ProfileWithin, SameIn, SameProfiles, OfProfile, HoldsIn, HoldsOf}
+use Rattle.aa_redundancy.specs.Places.{gone_at, at_place, SameProfile, ProfileAlike, ProfileWithin, SameIn, OfProfile, HoldsIn}
 use Rattle.aa_redundancy.specs.Sameness.{SameFiles, SameCaps, SameNets, SameChanges}
 use Rattle.aa_redundancy.specs.Covering.{Within, FilesWithin, CapsWithin, NetsWithin, ChangesWithin}
 use Rattle.aa_redundancy.specs.Without.{without, only, marked, with_later}
@@ -141,21 +139,6 @@ four_within p ns a b c d files caps nets changes =
     four_decide Within a b c d _ _ _ _ files caps nets changes (ProfileWithin p ns)
     (λ gone others f k n g. record { files = f; caps = k; nets = n; changes = g }) (λ gone others h. (h.files, h.caps, h.nets, h.changes))
 
--- no table decides of no profile
-pub none_decide : (R : Relation) (P : OfProfile) (ps : List Profile) (ns : List PlaceNumbers) → AllDecide R [] (HoldsOf P ps ns 0)
-none_decide R P ps ns = record { same = λ gone others same k lt. absurd (omega (arith, lt)); told = λ gone others r t c. absurd (not_in t c) }
-
--- those of one profile more
-pub profiles_more : (R : Relation) (P : OfProfile) (ps : List Profile) (ns : List PlaceNumbers) (n : ℕ) (ts us all : List Table) → all ≡ ts ++ us → AllDecide R ts (HoldsOf P ps ns n)
-    → AllDecide R us (HoldsIn P (slice_get ps n) (slice_get ns n)) → AllDecide R all (HoldsOf P ps ns (n + 1))
-profiles_more R P ps ns n ts us all e one other =
-    decide_both R ts us all (HoldsOf P ps ns n) (HoldsIn P (slice_get ps n) (slice_get ns n)) (HoldsOf P ps ns (n + 1)) e one other
-    (λ gone others p q k lt.
-    ⊎_elim (λ (less : k < n). p k less)
-    (λ (le : n ≤ k). let is : n ≡ k = omega (arith, le, lt) in let At : ℕ → Type 0 = λ (i : ℕ). HoldsIn P (slice_get ps i) (slice_get ns i) gone others in subst At is q)
-    (cases_lt k n))
-    (λ gone others r. (λ k lt. r k (omega (arith, lt)), r n (omega arith)))
-
 -- where a profile or its numbers aren't there, nothing is asked of it
 pub none_there : (R : Relation) (P : OfProfile) (o : Option Profile) (m : Option PlaceNumbers) → (o ≡ None) ⊎ (m ≡ None) → AllDecide R [] (HoldsIn P o m)
 none_there R P o m none = record { same = λ gone others same. at o m none gone others; told = λ gone others r t c. absurd (not_in t c) }
@@ -194,23 +177,17 @@ one_profile p ns gone h = record {
   changes = subst (λ (rs : List ChangeRule). SameChanges (without (gone_at gone ns.changes) p.changes) rs) (sym (all_left ns.changes p.changes)) (λ name wanted. sym (h.changes name wanted));
 }
 
-in_one : (o : Option Profile) (m : Option PlaceNumbers) (gone : ℕ → Bool) → HoldsIn ProfileAlike o m gone none_gone → SameIn o m gone
+pub in_one : (o : Option Profile) (m : Option PlaceNumbers) (gone : ℕ → Bool) → HoldsIn ProfileAlike o m gone none_gone → SameIn o m gone
 in_one (Some p) (Some ns) gone h = profile_one p ns gone h
 in_one (Some p) None gone h = tt
 in_one None (Some ns) gone h = tt
 in_one None None gone h = tt
 
-one_in : (o : Option Profile) (m : Option PlaceNumbers) (gone : ℕ → Bool) → SameIn o m gone → HoldsIn ProfileAlike o m gone none_gone
+pub one_in : (o : Option Profile) (m : Option PlaceNumbers) (gone : ℕ → Bool) → SameIn o m gone → HoldsIn ProfileAlike o m gone none_gone
 one_in (Some p) (Some ns) gone h = one_profile p ns gone h
 one_in (Some p) None gone h = tt
 one_in None (Some ns) gone h = tt
 one_in None None gone h = tt
-
-pub to_same : (ps : List Profile) (ns : List PlaceNumbers) (n : ℕ) (gone : ℕ → Bool) → HoldsOf ProfileAlike ps ns n gone none_gone → SameProfiles ps ns n gone
-to_same ps ns n gone h k lt = in_one (slice_get ps k) (slice_get ns k) gone (h k lt)
-
-pub from_same : (ps : List Profile) (ns : List PlaceNumbers) (n : ℕ) (gone : ℕ → Bool) → SameProfiles ps ns n gone → HoldsOf ProfileAlike ps ns n gone none_gone
-from_same ps ns n gone h k lt = one_in (slice_get ps k) (slice_get ns k) gone (h k lt)
 
 -- what can go by tables can go
 pub going_by : (ts : List Table) (Same : (ℕ → Bool) → Type 0) (count : ℕ) (held : List Bool) (g : Going)

@@ -1,13 +1,13 @@
 -- Why rules are redundant, by the rows that have marks of them.
 use Rattle.std.proofs.Common.{◌≡◌, ◌≢◌, ◌⊎◌, ℕ, ◌+◌, ◌<◌, ◌≤◌, List, [], ◌∷◌}
-use Rattle.std.proofs.Common.{◌++◌, length, take, get_or, Bool, true, false, true≢false, not, cond, Option, Some}
+use Rattle.std.proofs.Common.{length, take, get_or, Bool, true, false, true≢false, not, cond, Option, Some}
 use Rattle.std.proofs.Common.{None, refl, sym, ap, ◌∙◌, subst, All, Contains, arith, ⊎_elim, inl, inr}
 use Rattle.std.specs.Prelude.{◌==◌, ◌&&◌, ◌||◌, nat_lt, is_some}
-use Rattle.std.specs.List.{slice_get, cons_option, list_any, filter}
+use Rattle.std.specs.List.{slice_get, filter}
 use Rattle.std.specs.Int.Bits.{and_zero_l}
 use Rattle.std.proofs.lemmas.Bool.{cases_Bool, cases_lt, ltb-true, lt-ltb, eqb-true, and_parts, not-true}
 use Rattle.std.proofs.lemmas.List.Elements.{All-weaker, All-push, Contains-push_cases}
-use Rattle.std.proofs.lemmas.List.{get_or_past, get_or_default, take_more}
+use Rattle.std.proofs.lemmas.List.{get_or_past, take_more}
 use Rattle.std.proofs.lemmas.Bool.Decides.{eqb_tells}
 use Rattle.std.proofs.lemmas.Map.Views.{any-filter_same}
 use Rattle.aa_model.specs.Lawful.{has_exec}
@@ -15,7 +15,7 @@ use Rattle.aa_compile.specs.declared.sets.RuleSets.{RuleSets}
 use Rattle.aa_compile.specs.declared.side.Chosen.{Chosen}
 use Rattle.aa_compile.specs.Gathered.{gather, picked}
 use Rattle.aa_compile.specs.Said.{both, nothing}
-use Rattle.aa_compile.specs.Sides.{no_choice, earlier, mark_says}
+use Rattle.aa_compile.specs.Sides.{no_choice, earlier}
 use Rattle.aa_compile.proofs.ConflictLemmas.{in_head, in_tail}
 use Rattle.aa_redundancy.specs.declared.marks.RuleMark.{RuleMark}
 use Rattle.aa_redundancy.specs.declared.saying.Saying.{Saying}
@@ -25,7 +25,7 @@ use Rattle.aa_redundancy.specs.declared.beside.Beside.{Beside}
 use Rattle.aa_redundancy.specs.declared.reasons.Reason.{Reason}
 use Rattle.aa_redundancy.specs.Rights.{rights}
 use Rattle.aa_redundancy.specs.Without.{marked, only}
-use Rattle.aa_redundancy.specs.Marks.{is_sort, sets_of, choice_of, sets_by, choice_by, chosen_by, choose, led, said_by}
+use Rattle.aa_redundancy.specs.Marks.{is_sort, sets_of, choice_of, choice_by, chosen_by, choose, led, said_by}
 use Rattle.aa_redundancy.specs.Covering.{Within}
 use Rattle.aa_redundancy.specs.Tables.{Relation, Equal, none_gone, TablesRelated, SameTables, AllDecide}
 use Rattle.aa_redundancy.specs.Mentions.{Mentions, rows_at, AreListed, RelatedAt}

@@ -1,6 +1,6 @@
 -- Rules that say nothing, and so match nothing.
 use Rattle.std.proofs.Common.{◌≡◌, ◌≢◌, ℕ, zero, suc, ◌+◌, ◌<◌, ◌-◌, List, [], ◌∷◌, length, map, filter}
-use Rattle.std.proofs.Common.{Bool, true, false, true≢false, not, Option, Some, refl, sym, ap, ◌∙◌, subst, arith, ⊎_elim}
+use Rattle.std.proofs.Common.{Bool, true, false, true≢false, not, Option, Some, refl, sym, ap, ◌∙◌, subst, arith, Contains, ⊎_elim}
 use Rattle.std.specs.Prelude.{◌==◌, ◌&&◌, bit_and, bit_or}
 use Rattle.std.specs.List.{slice_get}
 use Rattle.std.specs.Int.{bit_at}
@@ -21,9 +21,12 @@ use Rattle.aa_redundancy.specs.declared.rights.Rights.{Rights}
 use Rattle.aa_redundancy.specs.declared.places.PlaceNumbers.{PlaceNumbers}
 use Rattle.aa_redundancy.specs.Rights.{rights}
 use Rattle.aa_redundancy.specs.Without.{without_from, without}
-use Rattle.aa_redundancy.specs.Places.{place_of, gone_at, ProfileAlike, HoldsIn, HoldsOf}
+use Rattle.aa_redundancy.specs.declared.fault.UntoldProfile.{UntoldProfile}
+use Rattle.aa_redundancy.specs.Places.{place_of, gone_at, ProfileAlike, OfProfile, HoldsIn}
+use Rattle.aa_redundancy.specs.Kept.{IsTold, KeptAlike, HoldsBut}
 use Rattle.aa_redundancy.specs.Reasons.{all_but, but_one, ChangesNothing}
 use Rattle.aa_redundancy.specs.Unmatched.{StandWithin, MatchNothing, BesideNoneMatchNothing}
+use Rattle.aa_redundancy.proofs.Untold.{told_or}
 
 first_none : (a b : ℕ) → bit_or a b ≡ 0 → a ≡ 0
 first_none a b e = omega (arith, le_or_l a b, e)
@@ -151,15 +154,35 @@ at_place p m count i within same = record {
       silent_place (λ x. plain x.audit x.deny) (change_holds name) m.changes count i p.changes within.changes (same.changes name wanted) n r here at_i one_bit;
 }
 
-alike_there : (o : Option Profile) (t : Option PlaceNumbers) (p : Profile) (m : PlaceNumbers) (gone others : ℕ → Bool) → o ≡ Some p → t ≡ Some m
-    → HoldsIn ProfileAlike o t gone others → ProfileAlike p m gone others
-alike_there o t p m gone others one other h =
-    subst (λ (b : Option PlaceNumbers). HoldsIn ProfileAlike (Some p) b gone others) other
-    (subst (λ (a : Option Profile). HoldsIn ProfileAlike a t gone others) one h)
+-- a rule that is gone exactly where it isn't, at that place, is none
+never : (numbers : List ℕ) (count i n : ℕ) → place_of numbers n < count
+    → gone_at (all_but count []) numbers n ≡ gone_at (but_one i (all_but count [])) numbers n → place_of numbers n ≡ i → ⊥
+never numbers count i n lt same at_i = true≢false (sym (below_gone count (place_of numbers n) lt) ∙ (same ∙ place_stays count i (place_of numbers n) at_i))
+
+-- so a profile that can't be told has none at the place
+kept_at : (p : Profile) (m : PlaceNumbers) (count i : ℕ) → StandWithin count m → ChangesNothing (KeptAlike p m) i (all_but count []) → MatchNothing p m i
+kept_at p m count i within same = record {
+  files = λ n r here at_i some path asked. absurd (never m.files count i n (within.files n) (same.files n (slice_get_within p.files n r here)) at_i);
+  caps = λ n r here at_i c lt. absurd (never m.caps count i n (within.caps n) (same.caps n (slice_get_within p.caps n r here)) at_i);
+  nets = λ n r here at_i f s lt less. absurd (never m.nets count i n (within.nets n) (same.nets n (slice_get_within p.nets n r here)) at_i);
+  changes = λ n r here at_i name wanted. absurd (never m.changes count i n (within.changes n) (same.changes n (slice_get_within p.changes n r here)) at_i);
+}
+
+there_too : (P : OfProfile) (o : Option Profile) (t : Option PlaceNumbers) (p : Profile) (m : PlaceNumbers) (gone others : ℕ → Bool) → o ≡ Some p → t ≡ Some m
+    → HoldsIn P o t gone others → P p m gone others
+there_too P o t p m gone others one other h =
+    subst (λ (b : Option PlaceNumbers). HoldsIn P (Some p) b gone others) other
+    (subst (λ (a : Option Profile). HoldsIn P a t gone others) one h)
 
 pub beside_none : BesideNoneMatchNothing
-beside_none ps ns count r is none k p m here there within =
-    let same = subst (λ (l : List ℕ). ChangesNothing (HoldsOf ProfileAlike ps ns (length ps)) r.place (all_but count l)) none is.suffice in
-    at_place p m count r.place within
-    (alike_there (slice_get ps k) (slice_get ns k) p m (all_but count []) (but_one r.place (all_but count [])) here there
-    (same k (slice_get_within ps k p here)))
+beside_none ps ns us count r is none k p m here there within =
+    let same = subst (λ (l : List ℕ). ChangesNothing (HoldsBut ProfileAlike KeptAlike us ps ns (length ps)) r.place (all_but count l)) none is.suffice in
+    let gone = all_but count [] in
+    let others = but_one r.place (all_but count []) in
+    ⊎_elim
+    (λ (told : IsTold us k). at_place p m count r.place within
+    (there_too ProfileAlike (slice_get ps k) (slice_get ns k) p m gone others here there (same.told k (slice_get_within ps k p here) told)))
+    (λ (found : (u : UntoldProfile) × Contains us u × (u.number ≡ k)). kept_at p m count r.place within
+    (there_too KeptAlike (slice_get ps k) (slice_get ns k) p m gone others here there
+    (subst (λ (i : ℕ). HoldsIn KeptAlike (slice_get ps i) (slice_get ns i) gone others) found.2 (same.kept found.0 found.1))))
+    (told_or us k)

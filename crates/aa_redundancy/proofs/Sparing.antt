@@ -11,12 +11,15 @@ use Rattle.aa_model.specs.declared.label.Label.{Label}
 use Rattle.aa_model.specs.declared.request.Request.{Request}
 use Rattle.aa_representatives.specs.Askable.{IsAskable}
 use Rattle.aa_redundancy.specs.declared.going.Going.{Going}
+use Rattle.aa_redundancy.specs.declared.fault.UntoldProfile.{UntoldProfile}
 use Rattle.aa_redundancy.specs.declared.places.PlaceNumbers.{PlaceNumbers}
 use Rattle.aa_redundancy.specs.Going.{AreGoing}
 use Rattle.aa_redundancy.specs.Places.{SameProfile, SameProfiles}
+use Rattle.aa_redundancy.specs.Kept.{SameBut}
 use Rattle.aa_redundancy.specs.Sameness.{SameFiles, SameCaps, SameNets, SameChanges, SaySame, answers_to}
 use Rattle.aa_redundancy.specs.Spared.{CanGo, OnePlace, AllPlaces, IsWithout, AreWithout}
 use Rattle.aa_redundancy.proofs.Replies.{answers_same}
+use Rattle.aa_redundancy.proofs.Untold.{kept_say_same}
 
 -- what can go changes nothing
 gone_same : (Same : (ℕ → Bool) → Type 0) (count : ℕ) (held : List Bool) (g : Going) → AreGoing Same count held g → (gone : ℕ → Bool) → CanGo count g gone → Same gone
@@ -47,7 +50,10 @@ all_say_same gone [] (p ∷ ps) qs same left = absurd left
 all_say_same gone (n ∷ ns) [] qs same left = absurd left
 all_say_same gone (n ∷ ns) (p ∷ ps) [] same left = absurd left
 
-pub spared_same : (p q : Policy) (ns : List PlaceNumbers) (count : ℕ) (held : List Bool) (g : Going) → AreGoing (SameProfiles p.profiles ns (length p.profiles)) count held g → (gone : ℕ → Bool) → CanGo count g gone
+pub spared_same : (p q : Policy) (ns : List PlaceNumbers) (us : List UntoldProfile) (count : ℕ) (held : List Bool) (g : Going)
+    → AreGoing (SameBut us p.profiles ns (length p.profiles)) count held g → (gone : ℕ → Bool) → CanGo count g gone
     → AreWithout gone ns p.profiles q.profiles → (l : Label) (rs : List Request) → All IsAskable rs → answers_to p l rs ≡ answers_to q l rs
-spared_same p q ns count held g are gone can left l rs asked =
-    answers_same p q (all_say_same gone ns p.profiles q.profiles (gone_same (SameProfiles p.profiles ns (length p.profiles)) count held g are gone can) left) l rs asked
+spared_same p q ns us count held g are gone can left l rs asked =
+    let but = gone_same (SameBut us p.profiles ns (length p.profiles)) count held g are gone can in
+    let same : SameProfiles p.profiles ns (length p.profiles) gone = kept_say_same us p.profiles ns (length p.profiles) gone but in
+    answers_same p q (all_say_same gone ns p.profiles q.profiles same left) l rs asked

@@ -37,8 +37,8 @@ use Rattle.aa_redundancy.specs.Without.{without_from, without}
 use Rattle.aa_redundancy.specs.Rights.{Lead, rights, lead_by, lead}
 use Rattle.aa_redundancy.specs.Marks.{marks_from, said_by}
 use Rattle.aa_redundancy.specs.Plain.{cap_marks, net_marks, change_marks, cap_row, net_row, change_row, HasRows}
-use Rattle.aa_redundancy.specs.Sameness.{SameFiles, SameCaps, SameNets, SameChanges}
-use Rattle.aa_redundancy.specs.Covering.{IsWithin, LeadsAlike, Within, FilesWithin, CapsWithin, NetsWithin, ChangesWithin}
+use Rattle.aa_redundancy.specs.Sameness.{SameFiles}
+use Rattle.aa_redundancy.specs.Covering.{IsWithin, LeadsAlike, Within, FilesWithin}
 use Rattle.aa_redundancy.specs.Tables.{Relation, Equal, Decides}
 use Rattle.aa_redundancy.proofs.Numbered.{left_in}
 use Rattle.aa_redundancy.proofs.Masked.{saying_left, said_is as files_said}

@@ -1,6 +1,6 @@
 -- Why rules can't be looked through.
 -- Source: own.
-use Rattle.std.specs.Prelude.{◌≡◌, ◌<◌, ◌+◌, ◌⊎◌, ℕ, List, length, Some, slice_get}
+use Rattle.std.specs.Prelude.{◌<◌, ◌+◌, ◌⊎◌, ℕ, List, length}
 use Rattle.aa_pattern.specs.Limits.{most_patterns}
 use Rattle.aa_pattern.specs.declared.pattern.Pattern.{Pattern}
 use Rattle.aa_auto.specs.Tables.{HasPlaces}
@@ -13,8 +13,6 @@ use Rattle.aa_redundancy.specs.declared.fault.RedundancyFault.{RedundancyFault}
 use Rattle.aa_redundancy.specs.declared.fault.RedundancyFault.TheVariants.{NoMemory as NoneLeft, TooManyPatterns as ManyPatterns, TooManyStates as ManyStates}
 use Rattle.aa_redundancy.specs.declared.fault.Excess.{Excess}
 use Rattle.aa_redundancy.specs.declared.fault.Excess.TheVariants.{Patterns, States}
-use Rattle.aa_redundancy.specs.declared.fault.PolicyRedundancyFault.{PolicyRedundancyFault}
-use Rattle.aa_redundancy.specs.declared.fault.PolicyRedundancyFault.TheVariants.{NoMemory as NoneAtAll, OfProfile}
 
 -- by why the patterns have no automaton
 abbrev pub fault_of : BuildFault → RedundancyFault
@@ -36,13 +34,7 @@ abbrev pub Exceeds : Profile → ℕ → Excess → Type 0
 Exceeds p limit Patterns = IsFaultIn p limit ManyPatterns
 Exceeds p limit States = IsFaultIn p limit ManyStates
 
--- by why the rules of the profile of that number can't be looked through
-abbrev pub fault_at : ℕ → RedundancyFault → PolicyRedundancyFault
-fault_at k NoneLeft = NoneAtAll
-fault_at k ManyPatterns = OfProfile k Patterns
-fault_at k ManyStates = OfProfile k States
-
--- one of the profiles has too much, unless memory ran out
-abbrev pub IsRefusal : List Profile → ℕ → PolicyRedundancyFault → Type 0
-IsRefusal ps limit NoneAtAll = Unit {0}
-IsRefusal ps limit (OfProfile k e) = (p : Profile) × (slice_get ps k ≡ Some p) × Exceeds p limit e
+-- why the rules of a profile can't be told, where that isn't want of memory
+abbrev pub fault_by : Excess → RedundancyFault
+fault_by Patterns = ManyPatterns
+fault_by States = ManyStates

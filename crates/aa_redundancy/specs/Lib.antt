@@ -16,5 +16,7 @@ pub mod Mentions
 pub mod Plain
 pub mod Going
 pub mod Places
+pub mod Kept
+pub mod Adding
 pub mod Spared
 pub mod Unmatched

@@ -8,10 +8,12 @@ use Rattle.aa_model.specs.declared.label.Label.{Label}
 use Rattle.aa_model.specs.declared.request.Request.{Request}
 use Rattle.aa_representatives.specs.Askable.{IsAskable}
 use Rattle.aa_redundancy.specs.declared.going.Going.{Going}
+use Rattle.aa_redundancy.specs.declared.fault.UntoldProfile.{UntoldProfile}
 use Rattle.aa_redundancy.specs.declared.places.PlaceNumbers.{PlaceNumbers}
 use Rattle.aa_redundancy.specs.Without.{without, only, marked}
 use Rattle.aa_redundancy.specs.Going.{AreGoing}
-use Rattle.aa_redundancy.specs.Places.{gone_at, SameProfiles}
+use Rattle.aa_redundancy.specs.Places.{gone_at}
+use Rattle.aa_redundancy.specs.Kept.{SameBut}
 use Rattle.aa_redundancy.specs.Sameness.{answers_to}
 
 -- one place that can go by itself is gone, or all that can go together
@@ -39,6 +41,7 @@ AreWithout gone _ _ _ = ⊥
 
 -- a policy without the rules of a place that can go by itself, or of all places that can go together, answers every list of requests as the policy
 abbrev pub SparedAnswersSame : Type 0
-SparedAnswersSame = (p q : Policy) (ns : List PlaceNumbers) (count : ℕ) (held : List Bool) (g : Going) → AreGoing (SameProfiles p.profiles ns (length p.profiles)) count held g
+SparedAnswersSame = (p q : Policy) (ns : List PlaceNumbers) (us : List UntoldProfile) (count : ℕ) (held : List Bool) (g : Going)
+    → AreGoing (SameBut us p.profiles ns (length p.profiles)) count held g
     → (gone : ℕ → Bool) → CanGo count g gone → AreWithout gone ns p.profiles q.profiles
     → (l : Label) (rs : List Request) → All IsAskable rs → answers_to p l rs ≡ answers_to q l rs

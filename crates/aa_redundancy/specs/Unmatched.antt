@@ -12,9 +12,11 @@ use Rattle.aa_compile.specs.FileRules.{any_sort, some_match}
 use Rattle.aa_compile.specs.Holding.{cap_holds, net_holds, change_holds}
 use Rattle.aa_regions.specs.Regions.{IsAsked}
 use Rattle.aa_regions.specs.Wanted.{IsWanted}
+use Rattle.aa_redundancy.specs.declared.fault.UntoldProfile.{UntoldProfile}
 use Rattle.aa_redundancy.specs.declared.places.PlaceNumbers.{PlaceNumbers}
 use Rattle.aa_redundancy.specs.declared.reasons.Reason.{Reason}
-use Rattle.aa_redundancy.specs.Places.{place_of, ProfileAlike, ProfileWithin, HoldsOf}
+use Rattle.aa_redundancy.specs.Places.{place_of, ProfileAlike, ProfileWithin}
+use Rattle.aa_redundancy.specs.Kept.{KeptAlike, KeptWithin, HoldsBut}
 use Rattle.aa_redundancy.specs.Reasons.{IsReason}
 
 -- each rule of a profile stands at one of so many places
@@ -38,7 +40,7 @@ pub record MatchNothing (p : Profile) (ns : PlaceNumbers) (i : ℕ) : Type 0 whe
 
 -- so do, in each profile, those of a place that is redundant beside no other
 abbrev pub BesideNoneMatchNothing : Type 0
-BesideNoneMatchNothing = (ps : List Profile) (ns : List PlaceNumbers) (count : ℕ) (r : Reason)
-    → IsReason (HoldsOf ProfileAlike ps ns (length ps)) (HoldsOf ProfileWithin ps ns (length ps)) count r → r.beside.items ≡ []
+BesideNoneMatchNothing = (ps : List Profile) (ns : List PlaceNumbers) (us : List UntoldProfile) (count : ℕ) (r : Reason)
+    → IsReason (HoldsBut ProfileAlike KeptAlike us ps ns (length ps)) (HoldsBut ProfileWithin KeptWithin us ps ns (length ps)) count r → r.beside.items ≡ []
     → (k : ℕ) (p : Profile) (m : PlaceNumbers) → slice_get ps k ≡ Some p → slice_get ns k ≡ Some m → StandWithin count m
     → MatchNothing p m r.place

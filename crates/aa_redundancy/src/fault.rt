@@ -1,7 +1,7 @@
 //! Why rules can't be looked through.
 
-ghost use Rattle.std.specs.Prelude.{◌≡◌};
-ghost use Rattle.aa_redundancy.specs.Faults.{fault_at};
+ghost use Rattle.std.specs.Prelude.{◌≡◌, IfOk};
+ghost use Rattle.aa_redundancy.specs.Faults.{fault_by};
 
 use aa_auto::BuildFault;
 use std::alloc::{AllocError, AllocFailed};
@@ -53,7 +53,7 @@ impl From<BuildFault> for RedundancyFault {
 }
 
 /// What a profile has too much of for its redundant rules to be told.
-#[derive(Clone, Copy)]
+#[derive(Clone, Copy, Debug, PartialEq, Eq)]
 pub enum Excess {
     /// More patterns than can be matched together.
     Patterns,
@@ -61,38 +61,20 @@ pub enum Excess {
     States,
 }
 
-/// Why the redundant rules of a policy can't be told.
-#[derive(Clone, Copy)]
-pub enum PolicyRedundancyFault {
-    NoMemory,
-    /// What the profile of that number has too much of.
-    OfProfile(usize, Excess),
+/// A profile of which it can't be told which rules are redundant, by its number, and what it has too much of.
+#[derive(Clone, Copy, Debug, PartialEq, Eq)]
+pub struct UntoldProfile {
+    pub number: usize,
+    pub why: Excess,
 }
 
-impl PolicyRedundancyFault {
-    /// The fault of the profile of that number.
-    pub(crate) fn of_profile(number: usize, fault: RedundancyFault) -> Self
-        ensures { result ≡ fault_at number fault }
-    {
-        match fault {
-            RedundancyFault::NoMemory => PolicyRedundancyFault::NoMemory,
-            RedundancyFault::TooManyPatterns => {
-                PolicyRedundancyFault::OfProfile(number, Excess::Patterns)
-            }
-            RedundancyFault::TooManyStates => {
-                PolicyRedundancyFault::OfProfile(number, Excess::States)
-            }
-        }
-    }
-}
-
-impl From<AllocError> for PolicyRedundancyFault {
-    ghost use Rattle.std.specs.Prelude.{◌≡◌};
-    ghost use Rattle.aa_redundancy.specs.declared.fault.PolicyRedundancyFault.TheVariants.{NoMemory};
-
-    ghost from_gives = { λ _ e. e ≡ NoMemory };
-
-    fn from(_: AllocError) -> Self {
-        PolicyRedundancyFault::NoMemory
+/// What a profile has too much of, if it isn't memory that there is too little of.
+pub(crate) fn excess_of(fault: RedundancyFault) -> Result<Excess, AllocError>
+    ensures { IfOk result (λ why. fault ≡ fault_by why) }
+{
+    match fault {
+        RedundancyFault::NoMemory => Err(AllocError),
+        RedundancyFault::TooManyPatterns => Ok(Excess::Patterns),
+        RedundancyFault::TooManyStates => Ok(Excess::States),
     }
 }

@@ -1,6 +1,7 @@
 //! What policies answer whose rules say the same.
 
 ghost use Rattle.aa_redundancy.specs.Sameness.{SayingSameAnswersSame};
+ghost use Rattle.aa_redundancy.specs.Kept.{KeptSaySame};
 ghost use Rattle.aa_redundancy.specs.Spared.{SparedAnswersSame};
 ghost use Rattle.aa_redundancy.specs.Unmatched.{BesideNoneMatchNothing};
 
@@ -8,6 +9,12 @@ ghost use Rattle.aa_redundancy.specs.Unmatched.{BesideNoneMatchNothing};
 /// one after another, at every label. It does nothing: its contract is a law of the definitions.
 pub fn same_sayings_reply_alike()
     ensures { SayingSameAnswersSame }
+{}
+
+/// Profiles of which it can't be told what their rules say, and of which none goes, say the same of whatever can be asked beside the
+/// others that do. It does nothing: its contract is a law of the definitions.
+pub fn kept_profiles_say_the_same()
+    ensures { KeptSaySame }
 {}
 
 /// A policy without the rules of a place that can go, or without those of all places that can go together, answers every list of

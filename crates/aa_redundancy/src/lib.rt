@@ -6,6 +6,7 @@ mod entries;
 mod fault;
 mod files;
 mod going;
+mod kept;
 mod laws;
 mod marks;
 mod mentions;
@@ -19,10 +20,11 @@ mod rows;
 mod saying;
 mod tables;
 
-pub use fault::{Excess, PolicyRedundancyFault, RedundancyFault};
+pub use fault::{Excess, RedundancyFault, UntoldProfile};
 pub use going::Going;
 pub use laws::{
-    rules_beside_none_match_nothing, same_sayings_reply_alike, spared_rules_change_no_reply,
+    kept_profiles_say_the_same, rules_beside_none_match_nothing, same_sayings_reply_alike,
+    spared_rules_change_no_reply,
 };
 pub use places::{PlaceNumbers, marks_of_places, place_of};
 pub use reasons::Reason;

@@ -1,23 +1,26 @@
 //! Redundant rules of profiles, by the places where they stand.
 
-ghost use Rattle.std.specs.Prelude.{◌≡◌, ◌<◌, ◌≤◌, ◌++◌, ◌∷◌, [], List, IfOk, IfErr, OnOk, length, slice_get};
+ghost use Rattle.std.specs.Prelude.{◌≡◌, ◌<◌, ◌≤◌, ◌++◌, IfOk, IfErr, OnOk, Contains, length};
 ghost use Rattle.aa_pattern.specs.Limits.{most_states};
 ghost use Rattle.aa_compile.specs.Rows.{patterns_of};
 ghost use Rattle.aa_representatives.specs.Alike.{change_patterns};
-ghost use Rattle.aa_redundancy.specs.declared.tables.Table as table;
-ghost use Rattle.aa_redundancy.specs.Faults.{IsFaultOf, IsFaultIn, IsRefusal};
+ghost use Rattle.aa_redundancy.specs.declared.fault.UntoldProfile.{UntoldProfile};
+ghost use Rattle.aa_redundancy.specs.Faults.{IsFaultOf, IsFaultIn};
 ghost use Rattle.aa_redundancy.specs.Without.{without};
 ghost use Rattle.aa_redundancy.specs.Sameness.{SameFiles, SameCaps, SameNets, SameChanges};
 ghost use Rattle.aa_redundancy.specs.Covering.{Within, FilesWithin, CapsWithin, NetsWithin, ChangesWithin};
 ghost use Rattle.aa_redundancy.specs.Tables.{Equal, Decides, AllDecide};
-ghost use Rattle.aa_redundancy.specs.Places.{gone_at, ProfileAlike, ProfileWithin, SameProfiles, HoldsIn, HoldsOf};
+ghost use Rattle.aa_redundancy.specs.Places.{gone_at, ProfileAlike, ProfileWithin};
+ghost use Rattle.aa_redundancy.specs.Kept.{IsUntold, KeptAlike, KeptWithin, HoldsBut, SameBut};
+ghost use Rattle.aa_redundancy.specs.Adding.{four, AddsKept, AddsProfile, AddsProfileIn, AreTablesOf};
 ghost use Rattle.aa_redundancy.specs.Reasons.{AreReasons};
 ghost use Rattle.aa_redundancy.specs.Going.{AreGoing};
 
 use crate::entries::{table_of_caps, table_of_nets};
-use crate::fault::{PolicyRedundancyFault, RedundancyFault};
+use crate::fault::{RedundancyFault, UntoldProfile, excess_of};
 use crate::files::table_of_files;
 use crate::going::{Going, going_of};
+use crate::kept::table_of_kept;
 use crate::names::table_of_changes;
 use crate::places::{PlaceNumbers, placed};
 use crate::reasons::{Reason, reasons_of};
@@ -85,16 +88,94 @@ fn placed_nets(
     Ok(placed)
 }
 
-/// Adds four tables.
-fn push_four(
-    tables: &mut Vec<Table>,
+/// The tables of the rules of a profile, sort by sort.
+#[derive(Drop)]
+pub(crate) struct ProfileTables {
     files: Table,
     caps: Table,
     nets: Table,
     changes: Table,
-) -> Result<(), AllocError>
-    ensures { OnOk result (tables.new.items ≡ tables.old.items ++ (files ∷ caps ∷ nets ∷ changes ∷ [])) }
+}
+
+/// What is made of the first profiles: tables of their rules, and which profiles can't be told.
+#[derive(Drop)]
+pub(crate) struct AllTables {
+    tables: Vec<Table>,
+    untold: Vec<UntoldProfile>,
+}
+
+/// The tables of a profile's rules by what they say.
+fn told_tables(
+    alloc: Global,
+    profile: &Profile,
+    numbers: &PlaceNumbers,
+    limit: usize,
+) -> Result<ProfileTables, RedundancyFault>
+    requires some { 0 < limit }
+    requires limit { limit ≤ most_states }
+    ensures alike { IfOk result (λ ts. AllDecide Equal (four ts) (ProfileAlike profile.now numbers.now)) }
+    ensures within { IfOk result (λ ts. AllDecide Within (four ts) (ProfileWithin profile.now numbers.now)) }
+    ensures many { IfErr result (λ e. IsFaultIn profile.now limit e) }
 {
+    let files = placed_files(alloc, profile, numbers, limit)?;
+    let changes = placed_changes(alloc, profile, numbers, limit)?;
+    let caps = placed_caps(alloc, profile, numbers)?;
+    let nets = placed_nets(alloc, profile, numbers)?;
+    Ok(ProfileTables {
+        files,
+        caps,
+        nets,
+        changes,
+    })
+}
+
+/// The tables by which none of them goes.
+fn kept_tables(
+    alloc: Global,
+    profile: &Profile,
+    numbers: &PlaceNumbers,
+) -> Result<ProfileTables, AllocError>
+    ensures alike { IfOk result (λ ts. AllDecide Equal (four ts) (KeptAlike profile.now numbers.now)) }
+    ensures within { IfOk result (λ ts. AllDecide Within (four ts) (KeptWithin profile.now numbers.now)) }
+{
+    let files = table_of_kept(
+        alloc,
+        profile.files.as_slice().len(),
+        numbers.files.as_slice(),
+    )?;
+    let caps = table_of_kept(
+        alloc,
+        profile.caps.as_slice().len(),
+        numbers.caps.as_slice(),
+    )?;
+    let nets = table_of_kept(
+        alloc,
+        profile.nets.as_slice().len(),
+        numbers.nets.as_slice(),
+    )?;
+    let changes = table_of_kept(
+        alloc,
+        profile.changes.as_slice().len(),
+        numbers.changes.as_slice(),
+    )?;
+    Ok(ProfileTables {
+        files,
+        caps,
+        nets,
+        changes,
+    })
+}
+
+/// Adds the tables of a profile.
+fn push_four(tables: &mut Vec<Table>, own: ProfileTables) -> Result<(), AllocError>
+    ensures { OnOk result (tables.new.items ≡ tables.old.items ++ four own) }
+{
+    let ProfileTables {
+        files,
+        caps,
+        nets,
+        changes,
+    } = own;
     tables.push(files)?;
     tables.push(caps)?;
     tables.push(nets)?;
@@ -102,68 +183,81 @@ fn push_four(
     Ok(())
 }
 
-/// Adds the tables of a profile's rules.
-fn push_tables(
-    tables: &mut Vec<Table>,
+/// Adds the profile of that number as one that can't be told, and its tables by which none of its rules goes.
+fn push_kept(
+    all: &mut AllTables,
     alloc: Global,
     profile: &Profile,
     numbers: &PlaceNumbers,
-    limit: usize,
-) -> Result<(), RedundancyFault>
-    requires some { 0 < limit }
-    requires limit { limit ≤ most_states }
-    ensures tables { OnOk result ((ts : List table.Table) × (tables.new.items ≡ tables.old.items ++ ts) × AllDecide Equal ts (ProfileAlike profile.now numbers.now) × AllDecide Within ts (ProfileWithin profile.now numbers.now)) }
-    ensures many { IfErr result (λ e. IsFaultIn profile.now limit e) }
+    number: usize,
+    fault: RedundancyFault,
+) -> Result<(), AllocError>
+    ensures { OnOk result (AddsKept profile.now numbers.now number fault all.old all.new) }
 {
-    let files = placed_files(alloc, profile, numbers, limit)?;
-    let changes = placed_changes(alloc, profile, numbers, limit)?;
-    let caps = placed_caps(alloc, profile, numbers)?;
-    let nets = placed_nets(alloc, profile, numbers)?;
-    push_four(tables, files, caps, nets, changes)?;
+    let why = excess_of(fault)?;
+    let own = kept_tables(alloc, profile, numbers)?;
+    push_four(&mut all.tables, own)?;
+    all.untold.push(UntoldProfile { number, why })?;
     Ok(())
 }
 
-/// Adds those of the profile of that number, and says at which profile they can't be made.
-fn push_tables_at(
-    tables: &mut Vec<Table>,
+/// Adds the profile of that number: by what its rules say, or as one that can't be told.
+fn push_profile(
+    all: &mut AllTables,
+    alloc: Global,
+    profile: &Profile,
+    numbers: &PlaceNumbers,
+    number: usize,
+    limit: usize,
+) -> Result<(), AllocError>
+    requires some { 0 < limit }
+    requires limit { limit ≤ most_states }
+    ensures { OnOk result (AddsProfile profile.now numbers.now number limit all.old all.new) }
+{
+    match told_tables(alloc, profile, numbers, limit) {
+        Ok(own) => push_four(&mut all.tables, own),
+        Err(fault) => push_kept(all, alloc, profile, numbers, number, fault),
+    }
+}
+
+/// Adds that of that number, if it and its numbers are there.
+fn push_profile_at(
+    all: &mut AllTables,
     alloc: Global,
     profiles: &[Profile],
     numbers: &[PlaceNumbers],
     number: usize,
     limit: usize,
-) -> Result<(), PolicyRedundancyFault>
+) -> Result<(), AllocError>
     requires some { 0 < limit }
     requires limit { limit ≤ most_states }
-    ensures tables { OnOk result ((ts : List table.Table) × (tables.new.items ≡ tables.old.items ++ ts) × AllDecide Equal ts (HoldsIn ProfileAlike (slice_get profiles.now number) (slice_get numbers.now number)) × AllDecide Within ts (HoldsIn ProfileWithin (slice_get profiles.now number) (slice_get numbers.now number))) }
-    ensures refused { IfErr result (λ e. IsRefusal profiles.now limit e) }
+    ensures { OnOk result (AddsProfileIn profiles.now numbers.now number limit all.old all.new) }
 {
     let (Some(profile), Some(numbers)) = (profiles.get(number), numbers.get(number)) else {
         return Ok(());
     };
-    match push_tables(tables, alloc, profile, numbers, limit) {
-        Ok(()) => Ok(()),
-        Err(fault) => Err(PolicyRedundancyFault::of_profile(number, fault)),
-    }
+    push_profile(all, alloc, profile, numbers, number, limit)
 }
 
-/// The tables of the rules of all profiles.
+/// The tables of the rules of all profiles, and which of these can't be told.
 fn tables_of(
     alloc: Global,
     profiles: &[Profile],
     numbers: &[PlaceNumbers],
     limit: usize,
-) -> Result<Vec<Table>, PolicyRedundancyFault>
+) -> Result<AllTables, AllocError>
     requires some { 0 < limit }
     requires limit { limit ≤ most_states }
-    ensures alike { IfOk result (λ ts. AllDecide Equal ts.items (HoldsOf ProfileAlike profiles.now numbers.now (length profiles.now))) }
-    ensures within { IfOk result (λ ts. AllDecide Within ts.items (HoldsOf ProfileWithin profiles.now numbers.now (length profiles.now))) }
-    ensures refused { IfErr result (λ e. IsRefusal profiles.now limit e) }
+    ensures { IfOk result (λ all. AreTablesOf profiles.now numbers.now limit (length profiles.now) all) }
 {
-    let mut tables = Vec::new(alloc);
+    let mut all = AllTables {
+        tables: Vec::new(alloc),
+        untold: Vec::new(alloc),
+    };
     for number in 0..profiles.len() {
-        push_tables_at(&mut tables, alloc, profiles, numbers, number, limit)?;
+        push_profile_at(&mut all, alloc, profiles, numbers, number, limit)?;
     }
-    Ok(tables)
+    Ok(all)
 }
 
 /// Which places can go with their rules, and of each that can go by itself why.
@@ -172,12 +266,15 @@ pub struct Redundant {
     pub going: Going,
     /// Of each that can go by itself, in order.
     pub reasons: Vec<Reason>,
+    /// The profiles of which it can't be told, in order.
+    pub untold: Vec<UntoldProfile>,
 }
 
 /// The places that can go with their rules, of so many: by itself each without whose rules every profile says the same of whatever can
 /// be asked, with those places beside whose rules it is so, and together some such that aren't held and without which all that are left
-/// still do. Of each profile stand the numbers of its rules' places. An automaton may have at most `limit` states. An error is memory, or of a profile that its rules on
-/// files or on changes of the profile have too many patterns or need too many states.
+/// still do. Of each profile stand the numbers of its rules' places. An automaton may have at most `limit` states. Where the rules of a
+/// profile on files or on changes of the profile have too many patterns, or need more states, none of its rules goes, and the profile is
+/// told besides.
 pub fn redundant_places(
     alloc: Global,
     profiles: &[Profile],
@@ -185,15 +282,19 @@ pub fn redundant_places(
     count: usize,
     held: &[bool],
     limit: usize,
-) -> Result<Redundant, PolicyRedundancyFault>
+) -> Result<Redundant, AllocError>
     requires some { 0 < limit }
     requires limit { limit ≤ most_states }
-    ensures going { IfOk result (λ r. AreGoing (SameProfiles profiles.now numbers.now (length profiles.now)) count held.now r.going) }
-    ensures reasons { IfOk result (λ r. AreReasons (HoldsOf ProfileAlike profiles.now numbers.now (length profiles.now)) (HoldsOf ProfileWithin profiles.now numbers.now (length profiles.now)) r.going.alone.items r.reasons.items) }
-    ensures refused { IfErr result (λ e. IsRefusal profiles.now limit e) }
+    ensures going { IfOk result (λ r. AreGoing (SameBut r.untold.items profiles.now numbers.now (length profiles.now)) count held.now r.going) }
+    ensures reasons { IfOk result (λ r. AreReasons (HoldsBut ProfileAlike KeptAlike r.untold.items profiles.now numbers.now (length profiles.now)) (HoldsBut ProfileWithin KeptWithin r.untold.items profiles.now numbers.now (length profiles.now)) r.going.alone.items r.reasons.items) }
+    ensures untold { IfOk result (λ r. (u : UntoldProfile) → Contains r.untold.items u → IsUntold profiles.now limit u) }
 {
-    let tables = tables_of(alloc, profiles, numbers, limit)?;
+    let AllTables { tables, untold } = tables_of(alloc, profiles, numbers, limit)?;
     let going = going_of(alloc, tables.as_slice(), count, held)?;
     let reasons = reasons_of(alloc, tables.as_slice(), going.alone.as_slice())?;
-    Ok(Redundant { going, reasons })
+    Ok(Redundant {
+        going,
+        reasons,
+        untold,
+    })
 }

@@ -17,6 +17,7 @@ use Rattle.aa_redundancy.specs.declared.going.Going.{Going}
 use Rattle.aa_redundancy.specs.declared.places.PlaceNumbers.{PlaceNumbers}
 use Rattle.aa_redundancy.specs.Going.{AreGoing}
 use Rattle.aa_redundancy.specs.Places.{SameProfile, SameIn, SameProfiles}
+use Rattle.aa_redundancy.specs.Kept.{SameBut, KeptSaySame}
 use Rattle.aa_redundancy.specs.Sameness.{SameFiles, SameCaps, SameNets, SameChanges, SaySame, SayingSameAnswersSame}
 use Rattle.aa_redundancy.specs.Spared.{CanGo, OnePlace, AllPlaces, IsWithout}
 use Rattle.aa_redundant.specs.Holding.{IsSparedAmong, SparedAmongOthers}
@@ -124,9 +125,9 @@ module _ (unread : Unread) (read whole spared : List Profile) (place : ℕ → �
   pub all_say : AllZip SaySame whole spared
   all_say = zipped_by SaySame whole spared left.many each_says
 
-pub spared_among : SayingSameAnswersSame → SparedAmongOthers
-spared_among law unread read whole spared place ns count held g wide are gone can joined left l rs asked =
+pub spared_among : SayingSameAnswersSame → KeptSaySame → SparedAmongOthers
+spared_among law stay unread read whole spared place ns us count held g wide are gone can joined left l rs asked =
+    let but = gone_same (SameBut us read.profiles ns (length read.profiles)) count held g are gone can in
     law whole spared
-    (all_say unread read.profiles whole.profiles spared.profiles place ns gone wide
-    (gone_same (SameProfiles read.profiles ns (length read.profiles)) count held g are gone can) joined left)
+    (all_say unread read.profiles whole.profiles spared.profiles place ns gone wide (stay us read.profiles ns (length read.profiles) gone but) joined left)
     l rs asked

@@ -19,6 +19,7 @@ use Rattle.aa_redundancy.specs.declared.reasons.Reason.{Reason}
 use Rattle.aa_redundancy.specs.declared.redundant.Redundant.{Redundant}
 use Rattle.aa_redundancy.specs.Going.{AreGoing}
 use Rattle.aa_redundancy.specs.Places.{place_of, ProfileAlike, ProfileWithin}
+use Rattle.aa_redundancy.specs.Kept.{KeptAlike, KeptWithin}
 use Rattle.aa_redundancy.specs.Plain.{positions_from}
 use Rattle.aa_redundancy.specs.Reasons.{IsReason, AreReasons}
 use Rattle.aa_redundancy.specs.Unmatched.{StandWithin, MatchNothing, BesideNoneMatchNothing}
@@ -164,19 +165,21 @@ no_reasons [] (r ∷ rs) none e = cc
 no_reasons (f ∷ fs) rs none e = absurd (omega (arith, none))
 
 -- rules that are redundant beside no other match nothing
-pub nothing_matches : BesideNoneMatchNothing → (d : Decided) (held : List Bool) (r : Redundant) → AreGoing (Spares d) (length (all_places d)) held r.going
-    → AreReasons (OfProfiles ProfileAlike d) (OfProfiles ProfileWithin d) r.going.alone.items r.reasons.items → NothingMatches d r
+pub nothing_matches : BesideNoneMatchNothing → (d : Decided) (held : List Bool) (r : Redundant) → AreGoing (Spares d r.untold.items) (length (all_places d)) held r.going
+    → AreReasons (OfProfiles ProfileAlike KeptAlike d r.untold.items) (OfProfiles ProfileWithin KeptWithin d r.untold.items) r.going.alone.items r.reasons.items
+    → NothingMatches d r
 nothing_matches law d held r going reasons =
     let flags = r.going.alone.items in
     let rs = r.reasons.items in
+    let us = r.untold.items in
     let ps = first_profiles d.policies.now in
     let Q : Reason → Type 0 = λ x. x.beside.items ≡ [] → (k : ℕ) (p : Profile) (m : PlaceNumbers) → slice_get ps k ≡ Some p
     → slice_get (all_numbers d) k ≡ Some m → MatchNothing p m x.place in
     ⊎_elim
     (λ (some : 0 < length (all_places d)).
     let stand : All (StandWithin (length (all_places d))) (all_numbers d) = numbers_stand d some (length d.places.now) (omega arith) in
-    All-weaker (IsReason (OfProfiles ProfileAlike d) (OfProfiles ProfileWithin d) (length flags)) Q (λ x is none k p m here there.
-    law ps (all_numbers d) (length flags) x is none k p m here there
+    All-weaker (IsReason (OfProfiles ProfileAlike KeptAlike d us) (OfProfiles ProfileWithin KeptWithin d us) (length flags)) Q (λ x is none k p m here there.
+    law ps (all_numbers d) us (length flags) x is none k p m here there
     (subst (λ (c : ℕ). StandWithin c m) (sym going.many_alone) (all_at (StandWithin (length (all_places d))) (all_numbers d) k m stand there)))
     rs reasons.each)
     (λ (none : length (all_places d) ≤ 0).

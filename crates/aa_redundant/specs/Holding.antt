@@ -9,10 +9,11 @@ use Rattle.aa_model.specs.declared.request.Request.{Request}
 use Rattle.aa_representatives.specs.Askable.{IsAskable}
 use Rattle.aa_skipping.specs.declared.unread.Unread.{Unread}
 use Rattle.aa_skipping.specs.Joined.{IsJoinedWith, IsFree}
+use Rattle.aa_redundancy.specs.declared.fault.UntoldProfile.{UntoldProfile}
 use Rattle.aa_redundancy.specs.declared.going.Going.{Going}
 use Rattle.aa_redundancy.specs.declared.places.PlaceNumbers.{PlaceNumbers}
 use Rattle.aa_redundancy.specs.Going.{AreGoing}
-use Rattle.aa_redundancy.specs.Places.{SameProfiles}
+use Rattle.aa_redundancy.specs.Kept.{SameBut}
 use Rattle.aa_redundancy.specs.Sameness.{answers_to}
 use Rattle.aa_redundancy.specs.Spared.{CanGo, IsWithout}
 
@@ -27,7 +28,7 @@ pub record IsSparedAmong (gone : ℕ → Bool) (ns : List PlaceNumbers) (count :
 -- A policy of all files, whatever profiles the skipped ones have by their heads, answers every list of requests as the same without the rules of a
 -- place that can go by itself, or of all places that can go together, in the profiles that were read.
 abbrev pub SparedAmongOthers : Type 0
-SparedAmongOthers = (unread : Unread) (read whole spared : Policy) (place : ℕ → ℕ) (ns : List PlaceNumbers) (count : ℕ) (held : List Bool) (g : Going)
-    → length ns ≡ length read.profiles → AreGoing (SameProfiles read.profiles ns (length read.profiles)) count held g → (gone : ℕ → Bool) → CanGo count g gone
+SparedAmongOthers = (unread : Unread) (read whole spared : Policy) (place : ℕ → ℕ) (ns : List PlaceNumbers) (us : List UntoldProfile) (count : ℕ) (held : List Bool) (g : Going)
+    → length ns ≡ length read.profiles → AreGoing (SameBut us read.profiles ns (length read.profiles)) count held g → (gone : ℕ → Bool) → CanGo count g gone
     → IsJoinedWith unread read.profiles whole.profiles place → IsSparedAmong gone ns (length read.profiles) place whole.profiles spared.profiles
     → (l : Label) (rs : List Request) → All IsAskable rs → answers_to whole l rs ≡ answers_to spared l rs

@@ -3,6 +3,7 @@
 use Rattle.std.specs.Prelude.{ℕ, List, ◌++◌, map, codes, decimal, Some, Bool, if◌then◌else◌}
 use Rattle.aa_text.specs.Jsons.{json_bytes, json_place, key_text, member_text, list_text}
 use Rattle.aa_redundant.specs.Told.{Telling, Explained}
+use Rattle.aa_redundant.specs.Untold.{Untelling}
 
 -- where a rule stands, and how it reads
 unfoldable pub json_told : Telling → List ℕ
@@ -20,9 +21,21 @@ reason_key is_covered = if is_covered then codes "covered_by" else codes "overru
 unfoldable pub json_explained : Explained → List ℕ
 json_explained e = json_told e.rule ++ member_text (reason_key e.is_covered) (list_text (map json_rule e.others)) ++ codes "}"
 
--- those that can go by themselves, and those that can go together; those that may lead to profiles of skipped files, and how many
--- files these are
-unfoldable pub json_rules : ℕ → List Explained → List Telling → List Telling → List ℕ
-json_rules skipped redundant undecided going =
+-- the name of a profile of which it can't be told
+abbrev pub json_untold : Untelling → List ℕ
+json_untold u = json_bytes u.profile
+
+-- those that can go by themselves, those that can go together, and those that may lead to profiles of skipped files
+unfoldable pub json_listed : List Explained → List Telling → List Telling → List ℕ
+json_listed redundant undecided going =
     codes "{" ++ key_text (codes "redundant") ++ list_text (map json_explained redundant) ++ member_text (codes "may_go") (list_text (map json_rule going))
-    ++ member_text (codes "undecided") (list_text (map json_rule undecided)) ++ member_text (codes "skipped_files") (decimal skipped) ++ codes "}\n"
+    ++ member_text (codes "undecided") (list_text (map json_rule undecided))
+
+-- how many rules decide nothing, and how many files are skipped
+unfoldable pub json_counts : ℕ → ℕ → List ℕ
+json_counts passed skipped = member_text (codes "passed_over") (decimal passed) ++ member_text (codes "skipped_files") (decimal skipped)
+
+-- the one object, with the profiles of which it can't be told
+unfoldable pub json_rules : ℕ → ℕ → List Explained → List Untelling → List Telling → List Telling → List ℕ
+json_rules passed skipped redundant untold undecided going =
+    json_listed redundant undecided going ++ member_text (codes "untold") (list_text (map json_untold untold)) ++ json_counts passed skipped ++ codes "}\n"

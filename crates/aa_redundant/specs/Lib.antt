@@ -2,6 +2,7 @@ pub mod Places
 pub mod Known
 pub mod Leading
 pub mod Told
+pub mod Untold
 pub mod Shown
 pub mod Json
 pub mod Sarif

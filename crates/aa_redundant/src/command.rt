@@ -1,22 +1,24 @@
 //! What `redundant` prints.
 
-ghost use Rattle.std.specs.Prelude.{◌≡◌, ◌++◌, ◌<◌, ◌≤◌, [], Some, length, map, slice_get, IfOk, IfErr, OnOk};
+ghost use Rattle.std.specs.Prelude.{◌≡◌, ◌++◌, ◌<◌, ◌≤◌, [], length, map, Contains, IfOk, OnOk};
 ghost use Rattle.aa_files.specs.Texts.{slices};
-ghost use Rattle.aa_model.specs.declared.policy.Profile.{Profile};
 ghost use Rattle.aa_pattern.specs.Limits.{most_states};
 ghost use Rattle.aa_compile.specs.Labels.{first_profiles};
 ghost use Rattle.aa_load.specs.UnitPolicy.{limit_of};
 ghost use Rattle.aa_command.specs.Setting.{setting_of};
-ghost use Rattle.aa_command.specs.Printed.{printed, faults_alone};
-ghost use Rattle.aa_redundancy.specs.Faults.{IsRefusal};
+ghost use Rattle.aa_command.specs.Printed.{printed};
+ghost use Rattle.aa_redundancy.specs.declared.fault.UntoldProfile.{UntoldProfile};
+ghost use Rattle.aa_redundancy.specs.Kept.{IsUntold, KeptAlike, KeptWithin};
 ghost use Rattle.aa_redundancy.specs.Going.{AreGoing};
 ghost use Rattle.aa_redundancy.specs.Places.{ProfileAlike, ProfileWithin};
 ghost use Rattle.aa_redundancy.specs.Reasons.{AreReasons};
 ghost use Rattle.aa_redundant.specs.Places.{all_places, all_numbers};
 ghost use Rattle.aa_redundant.specs.Leading.{AreOpen};
 ghost use Rattle.aa_redundant.specs.Told.{telling, explaining};
+ghost use Rattle.aa_redundant.specs.Untold.{untelling, untold_lines};
+ghost use Rattle.aa_redundant.specs.Accepted.{gone_among};
 ghost use Rattle.aa_report.specs.Lines.{lines_in};
-ghost use Rattle.aa_redundant.specs.Command.{Spares, OfProfiles, status_of, rules_printed, redundant_printed, why_of, untold_head, untold_line, IsRedundantOf, IsRedundantBut, IsRedundantBy, IsRedundantOutput};
+ghost use Rattle.aa_redundant.specs.Command.{Spares, OfProfiles, status_by, status_of, rules_printed, passed_in, redundant_printed, IsRedundantOf, IsRedundantBut, IsRedundantBy, IsRedundantOutput};
 
 use crate::accepted::{held, push_gone_among, unknown_of};
 use crate::explained::{ExplainedRule, all_explained, all_undecided};
@@ -26,18 +28,18 @@ use crate::leading::open_places;
 use crate::numbers::all_numbers;
 use crate::places::{RulePlace, rule_places};
 use crate::told::{ToldRule, rules_of};
+use crate::untold::{Untold, all_untold, push_untold_lines};
 use aa_check::Form;
 use aa_command::{Decided, Output, Settings, Use, path_refused, with_policy};
-use aa_compile::first_profiles;
+use aa_compile::{Compiled, first_profiles};
 use aa_files::{Tree, main_text};
-use aa_model::Profile;
 use aa_redundancy::{
-    Excess, PlaceNumbers, PolicyRedundancyFault, Redundant, marks_of_places, redundant_places,
-    rules_beside_none_match_nothing, spared_rules_change_no_reply,
+    PlaceNumbers, Redundant, marks_of_places, redundant_places, rules_beside_none_match_nothing,
+    spared_rules_change_no_reply,
 };
 use aa_report::lines_in;
 use aa_skipped::{Skipped, UsePart, with_read_policy};
-use aa_text::{NoMemory, push_name, push_text};
+use aa_text::NoMemory;
 use std::alloc::{AllocError, Global};
 
 /// Which files are looked at, and how the answer is printed.
@@ -69,20 +71,20 @@ fn redundant_in(
     numbers: &[PlaceNumbers],
     count: usize,
     held: &[bool],
-) -> Result<Redundant, PolicyRedundancyFault>
+) -> Result<Redundant, AllocError>
     requires numbers { numbers.now ≡ all_numbers decided }
     requires count { count ≡ length (all_places decided) }
-    ensures going { IfOk result (λ r. AreGoing (Spares decided.entry) (length (all_places decided.entry)) held.now r.going) }
-    ensures reasons { IfOk result (λ r. AreReasons (OfProfiles ProfileAlike decided.entry) (OfProfiles ProfileWithin decided.entry) r.going.alone.items r.reasons.items) }
-    ensures refused { IfErr result (λ e. IsRefusal (first_profiles decided.entry.policies.now) (limit_of states) e) }
+    ensures going { IfOk result (λ r. AreGoing (Spares decided.entry r.untold.items) (length (all_places decided.entry)) held.now r.going) }
+    ensures reasons { IfOk result (λ r. AreReasons (OfProfiles ProfileAlike KeptAlike decided.entry r.untold.items) (OfProfiles ProfileWithin KeptWithin decided.entry r.untold.items) r.going.alone.items r.reasons.items) }
+    ensures untold { IfOk result (λ r. (u : UntoldProfile) → Contains r.untold.items u → IsUntold (first_profiles decided.entry.policies.now) (limit_of states) u) }
 {
     let profiles = first_profiles(decided.policies);
     redundant_places(alloc, profiles, numbers, count, held, limit_of(states))
 }
 
 /// 4 where a rule can go, and else 5 where files are skipped.
-fn status_of(redundant: &[ExplainedRule], skipped: &[Skipped]) -> u8
-    ensures { result ≡ status_of (map explaining redundant.now) skipped.now }
+fn status_by(redundant: &[ExplainedRule], skipped: &[Skipped]) -> u8
+    ensures { result ≡ status_by (map explaining redundant.now) skipped.now }
 {
     if !redundant.is_empty() {
         return 4;
@@ -90,23 +92,52 @@ fn status_of(redundant: &[ExplainedRule], skipped: &[Skipped]) -> u8
     if skipped.is_empty() { 0 } else { 5 }
 }
 
-/// Prints rules that can go, but for accepted lines, those that may lead to profiles of skipped files, and those that can go together.
+/// 1 where there are profiles that can't be told, before those.
+fn status_of(untold: &[Untold], redundant: &[ExplainedRule], skipped: &[Skipped]) -> u8
+    ensures { result ≡ status_of (map untelling untold.now) (map explaining redundant.now) skipped.now }
+{
+    if !untold.is_empty() {
+        return 1;
+    }
+    status_by(redundant, skipped)
+}
+
+/// Appends of which profiles it can't be told, and which accepted lines aren't found.
+fn push_faults(
+    out: &mut Vec<u8>,
+    alloc: Global,
+    lines: &[&[u8]],
+    untold: &[Untold],
+    found: &[ExplainedRule],
+    undecided: &[ToldRule],
+) -> Result<(), AllocError>
+    ensures { OnOk result (out.new.items ≡ out.old.items ++ (untold_lines (map untelling untold.now) ++ gone_among (slices lines.now) (map explaining found.now) (map telling undecided.now))) }
+{
+    push_untold_lines(out, untold)?;
+    push_gone_among(out, alloc, lines, found, undecided)
+}
+
+/// Prints rules that can go, but for accepted lines, profiles that can't be told, rules that may lead to profiles of skipped files, and
+/// those that can go together.
 fn rules_printed(
     alloc: Global,
     form: Form,
+    passed: usize,
     lines: &[&[u8]],
     skipped: &[Skipped],
     found: Vec<ExplainedRule>,
+    untold: &[Untold],
     undecided: &[ToldRule],
     going: &[ToldRule],
 ) -> Result<Output, AllocError>
-    ensures { IfOk result (λ out. printed out ≡ rules_printed form (slices lines.now) skipped.now (map explaining found.items) (map telling undecided.now) (map telling going.now)) }
+    ensures { IfOk result (λ out. printed out ≡ rules_printed form passed (slices lines.now) skipped.now (map explaining found.items) (map untelling untold.now) (map telling undecided.now) (map telling going.now)) }
 {
     let mut output = Output::new(alloc);
-    push_gone_among(
+    push_faults(
         &mut output.faults,
         alloc,
         lines,
+        untold,
         found.as_slice(),
         undecided,
     )?;
@@ -115,13 +146,25 @@ fn rules_printed(
         &mut output.answers,
         alloc,
         form,
+        passed,
         skipped.len(),
         left.as_slice(),
+        untold,
         undecided,
         going,
     )?;
-    output.status = status_of(left.as_slice(), skipped);
+    output.status = status_of(untold, left.as_slice(), skipped);
     Ok(output)
+}
+
+/// How many rules of the policy decide nothing.
+fn passed_in(policies: &[Compiled]) -> usize
+    ensures { result ≡ passed_in policies.now }
+{
+    match policies.get(0) {
+        Some(compiled) => compiled.policy().passed_over.as_slice().len(),
+        None => 0,
+    }
 }
 
 /// Prints the rules of the places that can go, and why, but for those that are open.
@@ -141,95 +184,22 @@ fn redundant_printed(
     let units = decided.units;
     let reasons = redundant.reasons.as_slice();
     let together = redundant.going.together.as_slice();
+    let profiles = first_profiles(decided.policies);
     let found = all_explained(alloc, unsure, units, places, reasons)?;
+    let untold = all_untold(alloc, profiles, redundant.untold.as_slice())?;
     let undecided = all_undecided(alloc, unsure, units, places, reasons)?;
     let going = rules_of(alloc, units, together, places)?;
     rules_printed(
         alloc,
         form,
+        passed_in(decided.policies),
         lines,
         skipped,
         found,
+        untold.as_slice(),
         undecided.as_slice(),
         going.as_slice(),
     )
-}
-
-fn why_of(excess: Excess) -> &'static str
-    ensures { result.now ≡ why_of excess }
-{
-    match excess {
-        Excess::Patterns => "there are more than 65535 patterns",
-        Excess::States => { "its patterns need too many states together; --states allows more" }
-    }
-}
-
-fn push_untold_head(out: &mut Vec<u8>, alloc: Global, name: &[u8]) -> Result<(), AllocError>
-    ensures { OnOk result (out.new.items ≡ out.old.items ++ untold_head name.now) }
-{
-    push_text(out, "error: of ")?;
-    push_name(out, alloc, name)?;
-    push_text(out, " it can't be told which rules are redundant: ")
-}
-
-fn push_untold(
-    out: &mut Vec<u8>,
-    alloc: Global,
-    name: &[u8],
-    excess: Excess,
-) -> Result<(), AllocError>
-    ensures { OnOk result (out.new.items ≡ out.old.items ++ untold_line name.now excess) }
-{
-    push_untold_head(out, alloc, name)?;
-    push_text(out, why_of(excess))?;
-    push_text(out, "\n")
-}
-
-/// Says of which profile it can't be told, and why.
-fn untold(alloc: Global, name: &[u8], excess: Excess) -> Result<Output, AllocError>
-    ensures { IfOk result (λ out. printed out ≡ faults_alone (untold_line name.now excess) 1) }
-{
-    let mut output = Output::new(alloc);
-    push_untold(&mut output.faults, alloc, name, excess)?;
-    output.status = 1;
-    Ok(output)
-}
-
-/// The same of the profile of that number.
-fn untold_at(
-    alloc: Global,
-    profiles: &[Profile],
-    number: usize,
-    excess: Excess,
-) -> Result<Output, AllocError>
-    ensures { IfOk result (λ out. (p : Profile) × (slice_get profiles.now number ≡ Some p) × (printed out ≡ faults_alone (untold_line p.name excess) 1)) }
-{
-    match profiles.get(number) {
-        Some(profile) => untold(alloc, profile.name.as_slice(), excess),
-        None => Err(AllocError),
-    }
-}
-
-/// Says why the redundant rules of a policy can't be told.
-fn untold_of(
-    alloc: Global,
-    states: u32,
-    options: &RedundantOptions<'_>,
-    lines: &[&[u8]],
-    skipped: &[Skipped],
-    decided: Decided<'_>,
-    fault: PolicyRedundancyFault,
-) -> Result<Output, AllocError>
-    requires { IsRefusal (first_profiles decided.policies.now) (limit_of states) fault }
-    ensures { IfOk result (λ out. IsRedundantOf states options.now (slices lines.now) skipped.now decided.entry (printed out)) }
-{
-    let profiles = first_profiles(decided.policies);
-    match fault {
-        PolicyRedundancyFault::NoMemory => Err(AllocError),
-        PolicyRedundancyFault::OfProfile(number, excess) => {
-            untold_at(alloc, profiles, number, excess)
-        }
-    }
 }
 
 /// Marks for the places of the rules that may lead to profiles of skipped files.
@@ -271,12 +241,10 @@ fn redundant_by_numbers(
     let form = options.form;
     spared_rules_change_no_reply();
     rules_beside_none_match_nothing();
-    match redundant_in(alloc, states, decided, numbers, count, held.as_slice()) {
-        Ok(redundant) => redundant_printed(
-            alloc, form, lines, skipped, unsure, decided, places, &redundant,
-        ),
-        Err(fault) => untold_of(alloc, states, options, lines, skipped, decided, fault),
-    }
+    let redundant = redundant_in(alloc, states, decided, numbers, count, held.as_slice())?;
+    redundant_printed(
+        alloc, form, lines, skipped, unsure, decided, places, &redundant,
+    )
 }
 
 /// Prints them.
@@ -395,7 +363,7 @@ fn redundant_by<T: Tree>(
 
 /// Prints the rules of the one policy that files are without which every reply is as it is, each once where it stands and why, and those
 /// that can go together, but for rules that are accepted; of which lines of these no rule is redundant is told besides. Where it can't be
-/// told of a profile which rules are, that profile and why. Where files that are refused are skipped, the others are looked at, and no
+/// told of a profile which rules are, none of its rules is called so, and that profile and why are told besides. Where files that are refused are skipped, the others are looked at, and no
 /// rule is called redundant that may lead to a profile of a skipped one (`redundant_rules_are_sound`).
 pub fn redundant_files<T: Tree>(
     alloc: Global,

@@ -3,12 +3,15 @@
 ghost use Rattle.std.specs.Prelude.{◌≡◌, ◌++◌, codes, map, OnOk};
 ghost use Rattle.aa_text.specs.Jsons.{key_text, member_text, list_text};
 ghost use Rattle.aa_redundant.specs.Told.{telling, explaining};
-ghost use Rattle.aa_redundant.specs.Json.{json_told, json_rule, reason_key, json_explained, json_rules};
+ghost use Rattle.aa_redundant.specs.Untold.{untelling};
+ghost use Rattle.aa_redundant.specs.Json.{json_told, json_rule, reason_key, json_explained, json_untold, json_listed, json_counts, json_rules};
 
 use crate::explained::ExplainedRule;
 use crate::told::ToldRule;
+use crate::untold::Untold;
 use aa_text::{
-    ToJson, push_json_place, push_key, push_list, push_list_member, push_member, push_text,
+    ToJson, push_json_bytes, push_json_place, push_key, push_list, push_list_member, push_member,
+    push_text,
 };
 use std::alloc::{AllocError, Global};
 
@@ -91,23 +94,73 @@ fn push_explained(
     Ok(())
 }
 
-/// Appends the rules that can go by themselves, those that can go together, those that may lead to profiles of skipped files, and how many
-/// files these are, as one JSON object and a line end.
-#[tactic(auto, unfolding(crate::specs::Json::json_rules))]
-pub(crate) fn push_json_rules(
+impl ToJson for Untold {
+    ghost use Rattle.aa_redundant.specs.Untold.{untelling};
+    ghost use Rattle.aa_redundant.specs.Json.{json_untold};
+
+    ghost json = { λ untold. json_untold (untelling untold) };
+
+    fn push_json(&self, out: &mut Vec<u8>, alloc: Global) -> Result<(), AllocError> {
+        push_json_bytes(out, alloc, self.profile.as_slice())
+    }
+}
+
+/// Appends the profiles of which it can't be told, as a member.
+fn push_untold(out: &mut Vec<u8>, alloc: Global, untold: &[Untold]) -> Result<(), AllocError>
+    ensures { OnOk result (out.new.items ≡ out.old.items ++ member_text (codes "untold") (list_text (map json_untold (map untelling untold.now)))) }
+{
+    push_list_member(out, alloc, "untold", untold)?;
+    Ok(())
+}
+
+/// Appends the rules that can go by themselves, those that can go together, and those that may lead to profiles of skipped files.
+#[tactic(auto, unfolding(crate::specs::Json::json_listed))]
+fn push_listed(
     out: &mut Vec<u8>,
     alloc: Global,
-    skipped: usize,
     redundant: &[ExplainedRule],
     undecided: &[ToldRule],
     going: &[ToldRule],
 ) -> Result<(), AllocError>
-    ensures { OnOk result (out.new.items ≡ out.old.items ++ json_rules skipped (map explaining redundant.now) (map telling undecided.now) (map telling going.now)) }
+    ensures { OnOk result (out.new.items ≡ out.old.items ++ json_listed (map explaining redundant.now) (map telling undecided.now) (map telling going.now)) }
 {
     push_first(out, "redundant")?;
     push_explained(out, alloc, redundant)?;
     push_others(out, alloc, "may_go", going)?;
-    push_others(out, alloc, "undecided", undecided)?;
-    push_member(out, alloc, "skipped_files", &skipped)?;
+    push_others(out, alloc, "undecided", undecided)
+}
+
+/// Appends how many rules decide nothing, and how many files are skipped.
+#[tactic(auto, unfolding(crate::specs::Json::json_counts))]
+fn push_counts(
+    out: &mut Vec<u8>,
+    alloc: Global,
+    passed: usize,
+    skipped: usize,
+) -> Result<(), AllocError>
+    ensures { OnOk result (out.new.items ≡ out.old.items ++ json_counts passed skipped) }
+{
+    push_member(out, alloc, "passed_over", &passed)?;
+    push_member(out, alloc, "skipped_files", &skipped)
+}
+
+/// Appends these rules, the profiles of which it can't be told, how many rules decide nothing, and how many files are skipped, as one JSON
+/// object and a line end.
+#[tactic(auto, unfolding(crate::specs::Json::json_rules))]
+pub(crate) fn push_json_rules(
+    out: &mut Vec<u8>,
+    alloc: Global,
+    passed: usize,
+    skipped: usize,
+    redundant: &[ExplainedRule],
+    untold: &[Untold],
+    undecided: &[ToldRule],
+    going: &[ToldRule],
+) -> Result<(), AllocError>
+    ensures { OnOk result (out.new.items ≡ out.old.items ++ json_rules passed skipped (map explaining redundant.now) (map untelling untold.now) (map telling undecided.now) (map telling going.now)) }
+{
+    push_listed(out, alloc, redundant, undecided, going)?;
+    push_untold(out, alloc, untold)?;
+    push_counts(out, alloc, passed, skipped)?;
     push_text(out, "}\n")
 }

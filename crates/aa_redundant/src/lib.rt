@@ -14,6 +14,7 @@ mod places;
 mod sarif;
 mod shown;
 mod told;
+mod untold;
 
 pub use command::{RedundantOptions, redundant_files};
 pub use laws::redundant_rules_are_sound;

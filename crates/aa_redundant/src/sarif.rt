@@ -1,17 +1,22 @@
 //! Redundant rules as a SARIF log.
 
-ghost use Rattle.std.specs.Prelude.{◌≡◌, ◌++◌, [], Some, true, codes, map, OnOk, IfOk};
+ghost use Rattle.std.specs.Prelude.{◌≡◌, ◌==◌, ◌++◌, Some, codes, length, map, OnOk, IfOk};
 ghost use Rattle.aa_text.specs.Jsons.{member_text};
-ghost use Rattle.aa_check.specs.Sarif.{message_text, location_text, invocations_text};
+ghost use Rattle.aa_check.specs.Sarif.{message_text, location_text};
+ghost use Rattle.aa_check.specs.Notified.{notified};
 ghost use Rattle.aa_redundant.specs.Told.{telling, explaining};
+ghost use Rattle.aa_redundant.specs.Untold.{untelling};
 ghost use Rattle.aa_redundant.specs.Shown.{finding_text};
-ghost use Rattle.aa_redundant.specs.Sarif.{result_text, results_member, sarif_rules};
+ghost use Rattle.aa_redundant.specs.Sarif.{result_text, results_member, note_text, run_member, sarif_rules};
 ghost use Rattle.aa_redundant.specs.Listed.{found};
 
 use crate::explained::ExplainedRule;
 use crate::shown::push_finding;
 use crate::told::ToldRule;
-use aa_check::{Invocations, Level, Location, Message, push_rule_members, push_sarif_head};
+use crate::untold::Untold;
+use aa_check::{
+    Invocations, Level, Location, Message, Notification, push_rule_members, push_sarif_head,
+};
 use aa_text::{ToJson, push_list_member, push_member, push_text};
 use std::alloc::{AllocError, Global};
 
@@ -80,27 +85,50 @@ fn push_results(out: &mut Vec<u8>, alloc: Global, rules: &[ExplainedRule]) -> Re
     push_list_member(out, alloc, "results", list.as_slice())
 }
 
-/// Appends how the run went, as a member.
-fn push_run(out: &mut Vec<u8>, alloc: Global) -> Result<(), AllocError>
-    ensures { OnOk result (out.new.items ≡ out.old.items ++ member_text (codes "invocations") (invocations_text true [])) }
+/// Of which profiles it can't be told, and why.
+fn notes_of<'a>(alloc: Global, all: &'a [Untold]) -> Result<Vec<Notification<'a>>, AllocError>
+    ensures { IfOk result (λ list. notified list.items ≡ map note_text (map untelling all.now)) }
 {
-    let run = Invocations {
-        is_successful: true,
-        warnings: &[],
-    };
-    push_member(out, alloc, "invocations", &run)
+    let mut list = Vec::new(alloc);
+    for untold in all {
+        list.push(Notification {
+            level: Level::Error,
+            bytes: untold.text.as_slice(),
+        })?;
+    }
+    Ok(list)
 }
 
-/// Appends the rules that can go by themselves, as one SARIF log (version 2.1.0) and a line end.
+/// Appends how the run went, as a member.
+fn push_run(out: &mut Vec<u8>, alloc: Global, untold: &[Untold]) -> Result<(), AllocError>
+    ensures { OnOk result (out.new.items ≡ out.old.items ++ run_member (map untelling untold.now)) }
+{
+    let list = notes_of(alloc, untold)?;
+    let warnings = list.as_slice();
+    let is_successful = untold.is_empty();
+    push_member(
+        out,
+        alloc,
+        "invocations",
+        &Invocations {
+            is_successful,
+            warnings,
+        },
+    )
+}
+
+/// Appends the rules that can go by themselves, as one SARIF log (version 2.1.0) and a line end, with a notification for each profile of
+/// which it can't be told.
 pub(crate) fn push_sarif_rules(
     out: &mut Vec<u8>,
     alloc: Global,
     rules: &[ExplainedRule],
+    untold: &[Untold],
 ) -> Result<(), AllocError>
-    ensures { OnOk result (out.new.items ≡ out.old.items ++ sarif_rules (map explaining rules.now)) }
+    ensures { OnOk result (out.new.items ≡ out.old.items ++ sarif_rules (map explaining rules.now) (map untelling untold.now)) }
 {
     push_sarif_head(out)?;
     push_results(out, alloc, rules)?;
-    push_run(out, alloc)?;
+    push_run(out, alloc, untold)?;
     push_text(out, "}]}\n")
 }

@@ -77,3 +77,7 @@ shortened text = if nat_le (length text) 120 then text else take (character_end 
 -- the rule whose place that is, from its first word to its comma; at most 120 bytes of it
 abbrev pub rule_text : List ℕ → ℕ → List ℕ
 rule_text text byte = shortened (rule_from rule_start (drop (rule_begin text byte) text))
+
+-- the words of a head, whose place that is, up to where its brace begins; at most 120 bytes of them
+abbrev pub head_text : List ℕ → ℕ → ℕ → List ℕ
+head_text text byte end = shortened (words_text text (rule_begin text byte) end)

@@ -1,8 +1,8 @@
-//! The text of a rule, as it is shown.
+//! The text of a rule and of a head, as it is shown.
 
 ghost use Rattle.std.specs.Prelude.{◌≡◌, ◌++◌, ◌∷◌, [], ◌==◌, ◌||◌, ◌&&◌, OnOk, IfOk};
 ghost use Rattle.aa_words.specs.Runs.{is_sign, begins_with};
-ghost use Rattle.aa_rule_text.specs.RuleTexts.{word_rest, rule_start, place_within, place_between, place_next, ends_rule, space_if, shown_between, shown_at, rule_from, words_from, words_text, rule_begin, rule_text};
+ghost use Rattle.aa_rule_text.specs.RuleTexts.{word_rest, rule_start, place_within, place_between, place_next, ends_rule, space_if, shown_between, shown_at, rule_from, words_from, words_text, rule_begin, rule_text, head_text};
 
 use crate::short::{before, from_place, shortened};
 use aa_words::{comment_length, is_white_space, name_length, path_length, quoted_length};
@@ -224,5 +224,14 @@ pub fn rule_text(alloc: Global, text: &[u8], byte: usize) -> Result<Vec<u8>, All
 {
     let mut whole = Vec::new(alloc);
     push_rule(&mut whole, from_place(text, rule_begin(text, byte)))?;
+    Vec::from_slice(alloc, shortened(whole.as_slice()))
+}
+
+/// The text of the head whose place this byte is, from its first word to before the byte `end`, with one space where white space and
+/// comments stand between its words: at most 120 bytes of it, in whole characters.
+pub fn head_text(alloc: Global, text: &[u8], byte: usize, end: usize) -> Result<Vec<u8>, AllocError>
+    ensures { IfOk result (λ head. head.items ≡ head_text text.now byte end) }
+{
+    let whole = words_text(alloc, text, rule_begin(text, byte), end)?;
     Vec::from_slice(alloc, shortened(whole.as_slice()))
 }

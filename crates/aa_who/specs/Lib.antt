@@ -6,3 +6,4 @@ pub mod Answers
 pub mod Shown
 pub mod Json
 pub mod Command
+pub mod Enforced

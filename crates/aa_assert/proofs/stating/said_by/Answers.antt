@@ -1,5 +1,5 @@
 use Rattle.aa_claims.proofs.Claims.{handed_on}
-use Rattle.aa_assert.proofs.Unanswered.{not_said, of_others}
+use Rattle.aa_assert.proofs.Unanswered.{not_said, of_others, of_nothing}
 use Rattle.aa_assert.proofs.stating.said_by.Goals as goal
 
 pub returns-in_err-asked-clause-refused : goal.returns-in_err-asked-clause-refused
@@ -16,4 +16,15 @@ returns-in_err-check_scope-clause-refused c =
     c.in_ok-asked.asked c.in_ok-asked.ensures.asked c.in_err-check_scope.ensures.refused))
 
 pub returns-clause-stated : goal.returns-clause-stated
-returns-clause-stated c = record { is_asked = c.in_ok-asked.ensures.asked; scope = c.in_ok-check_scope.ensures.in_scope }
+returns-clause-stated c = record {
+  is_asked = c.in_ok-asked.ensures.asked;
+  scope = c.in_ok-check_scope.ensures.in_scope;
+  breakable = c.in_ok-check_breakable.ensures.breakable;
+}
+
+pub returns-in_err-check_breakable-clause-refused : goal.returns-in_err-check_breakable-clause-refused
+returns-in_err-check_breakable-clause-refused c =
+    let r = c.from_residual-in_err-check_breakable in
+    handed_on r.result _ _ r.ensures.1
+    (λ y p. rw p (of_nothing c.args.part c.args.words.now c.args.head.now c.args.word.now c.in_err-check_breakable.field-0.0
+    c.in_ok-asked.asked c.in_ok-asked.ensures.asked c.in_ok-check_scope.ensures.in_scope c.in_err-check_breakable.ensures.refused))

@@ -19,12 +19,12 @@ returns c =
     let ps = c.args.policies.now in
     let all = c.args.findings.now in
     let each = map apart c.args.rules.now in
-    let fs = in_order (findings_left ps o.wanted accepted all) in
+    let fs = in_order ps (findings_left ps o.wanted accepted all) in
     let rs = rules_left ps o.wanted accepted each in
     let gone = c.in_ok-gone.gone.items in
     IfOk-weaker c.print_found.result (λ (out : Output). printed out ≡ reported o ps c.as_slice.result.now (map apart c.as_slice-2.result.now) gone a)
     (λ (out : Output). printed out ≡ reported_but o accepted ps all each a)
-    (λ out is. is ∙ (ap (λ (xs : List Finding). reported o ps xs (map apart c.as_slice-2.result.now) gone a) (c.as_slice.ensures.value ∙ (c.in_ok-findings.ensures ∙ ap in_order c.in_ok-left.ensures))
+    (λ out is. is ∙ (ap (λ (xs : List Finding). reported o ps xs (map apart c.as_slice-2.result.now) gone a) (c.as_slice.ensures.value ∙ (c.in_ok-findings.ensures ∙ ap (in_order ps) c.in_ok-left.ensures))
     ∙ (ap (λ (xs : List ApartRule). reported o ps fs xs gone a) (ap (map apart) c.as_slice-2.ensures.value ∙ c.in_ok-rules.ensures)
     ∙ ap (λ (text : List ℕ). reported o ps fs rs text a) c.in_ok-gone.ensures)))
     c.print_found.ensures

@@ -21,12 +21,18 @@ returns-in_err-next-clause-refused c = λ h.
 pub returns-clause-found : goal.returns-clause-found
 returns-clause-found c =
     let body = c.in_ok-next.ensures.found in
-    let child : PlacedProfile = record { head = head_data c.in_ok-head.head; rules = flat_map if_any body.0 } in (
+    let child : PlacedProfile = record {
+      head = head_data c.in_ok-head.head;
+      place = c.in_ok-placed.placed.place;
+      flags = c.in_ok-placed.placed.flags.items;
+      rules = flat_map if_any body.0;
+    } in (
       child,
       record {
         after = rest_of c.args.words.now c.in_ok-head.body;
         statements = body.0;
         head_stands = c.in_ok-head.ensures.found;
+        head_placed = c.in_ok-placed.ensures;
         body_stands = body.1;
         rules_are = refl;
       },

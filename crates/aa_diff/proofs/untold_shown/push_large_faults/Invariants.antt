@@ -1,0 +1,8 @@
+use Rattle.std.proofs.Common.{◌≡◌, ◌++◌, take, map}
+use Rattle.std.specs.Prelude.{flat_map}
+use Rattle.aa_diff.specs.Untold.{large}
+use Rattle.aa_diff.specs.UntoldShown.{large_fault}
+use Rattle.aa_diff.proofs.untold_shown.push_large_faults.Given as goal
+
+abbrev pub invariant-loop-one : goal.invariant-loop-one
+invariant-loop-one l = l.out.items ≡ l.initial.out.items ++ flat_map large_fault (map large (take l.one-index l.too_large))
