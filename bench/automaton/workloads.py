@@ -6,7 +6,7 @@ usage: workloads.py PROGRAM [WORD..]
 PROGRAM is the built program `aa_auto_bench` (bench/automaton/run builds it), which reads patterns from standard input, one
 a line. With words, only the workloads that have one of them in their names are run. Each figure is the median of five runs
 of the whole process, its start included, in seconds of the processor, so that other work on the machine doesn't show; the
-ratio is PROGRAM's time over the parser's.
+ratio is PROGRAM's time over the parser's. Behind it stands how long the regions by these patterns take, over the automaton's time.
 """
 import os
 import resource
@@ -106,24 +106,29 @@ def kind_of(name):
 
 def main():
     program = os.path.abspath(sys.argv[1])
-    words, is_compared, ratios = sys.argv[2:], has_parser(), {}
-    print(f"{'workload':16} {'patterns':>8} {'ours s':>9} {'parser s':>9} {'ratio':>7}  rows and classes")
+    words, is_compared, ratios, by_regions = sys.argv[2:], has_parser(), {}, []
+    print(f"{'workload':16} {'patterns':>8} {'ours s':>9} {'parser s':>9} {'ratio':>7} {'regions':>7}  rows and classes")
     for name, before, paths, patterns in workloads():
         if words and not any(w in name for w in words):
             continue
         with tempfile.NamedTemporaryFile("w", suffix=".profile") as profile:
             profile.write(before + "profile p {\n" + "".join(f"  {p} r,\n" for p in paths) + "}\n")
             profile.flush()
-            ours, last = median([program], "".join(p + "\n" for p in patterns).encode())
+            given = "".join(p + "\n" for p in patterns).encode()
+            ours, last = median([program], given)
+            regions = median([program], b"regions\n" + given)[0] / ours
+            by_regions.append(regions)
             beside = f"{'':9} {'':7}"
             if is_compared:
                 theirs, other = median(["apparmor_parser", "-QKS", "--features-file", FEATURES, profile.name])
                 beside = f"{theirs:9.4f} {ours / theirs:7.2f}" if other[1] == 0 else f"the parser ended with {other[1]}"
                 if other[1] == 0:
                     ratios.setdefault(kind_of(name), []).append((number_in(name), ours / theirs))
-        print(f"{name:16} {len(patterns):8} {ours:9.4f} {beside}  {last[2].decode().strip()}", flush=True)
+        print(f"{name:16} {len(patterns):8} {ours:9.4f} {beside} {regions:7.2f}  {last[2].decode().strip()}", flush=True)
     for kind, found in ratios.items():
         row(f"{'; '.join(f'{number:,}' for number, _ in found)} {kind}", "the parser", [ratio for _, ratio in found])
+    if by_regions:
+        row("regions by all these patterns: the worst", "the automaton that they are of", [max(by_regions)], "3")
     if not is_compared:
         row("automata of literals, trees and what begins with `**`", "the parser", [])
     said, peak, seconds = large(program)

@@ -1,4 +1,15 @@
-//! What `ask` answers: verdicts on requests, one after another, with the rules that decided them, and how they are printed.
+//! What `ask` answers: verdicts on requests, one after another, with the rules that decided them, and how they are
+//! printed.
+//!
+//! `ask_files` takes settings, `AskOptions` and words, and gives what is printed, by the policy that `with_policy` of
+//! `aa_command` makes of the files. There `ask` answers: `opening_label` finds under which label is asked, by a
+//! profile's name, by a program or as the only profile; `requests_of` reads the words; and `decide` gives of each
+//! request a `Verdict`: the answer, the rules that decided it, and what no rule allows. `push_verdicts` and
+//! `push_json_verdicts` print them. The meaning lies in the definitions `answers` and `verdict_on`, and the law
+//! `reasons_tell_answers` says that the rules that are named account for the answer. The answer is that of
+//! `aa_mediate`; the rules are left to `aa_explain`, and words to `aa_notation`.
+//!
+//! Shown by tests/policy_files/questions_and_their_rules.
 #![tactic(auto)]
 
 mod asking;

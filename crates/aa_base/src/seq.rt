@@ -20,12 +20,14 @@ impl<T> Model for Seq<T> {
 }
 
 impl<T> Seq<T> {
+    /// The values of a vector, without taking memory.
     pub fn from_vec(items: Vec<T>) -> Seq<T>
         ensures { result ≡ items.items }
     {
         Seq { items }
     }
 
+    /// The values as a vector, without taking memory.
     pub fn into_vec(self) -> Vec<T>
         ensures { result.items ≡ self }
     {
@@ -33,6 +35,7 @@ impl<T> Seq<T> {
         items
     }
 
+    /// The values, in order.
     pub fn as_slice(&self) -> &[T]
         ensures { result.now ≡ self.now }
     {

@@ -20,6 +20,7 @@ impl Model for Text {
 }
 
 impl Text {
+    /// A copy of the bytes.
     pub fn copy_of(alloc: Global, bytes: &[u8]) -> Result<Text, AllocError>
         ensures { IfOk result (λ t. t ≡ bytes.now) }
     {
@@ -28,12 +29,14 @@ impl Text {
         })
     }
 
+    /// The bytes of a vector, without taking memory.
     pub fn from_vec(bytes: Vec<u8>) -> Text
         ensures { result ≡ bytes.items }
     {
         Text { bytes }
     }
 
+    /// The bytes as a vector, without taking memory.
     pub fn into_vec(self) -> Vec<u8>
         ensures { result.items ≡ self }
     {
@@ -41,6 +44,7 @@ impl Text {
         bytes
     }
 
+    /// The bytes, in order.
     pub fn as_slice(&self) -> &[u8]
         ensures { result.now ≡ self.now }
     {

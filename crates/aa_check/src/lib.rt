@@ -1,4 +1,20 @@
 //! What `check` finds of the files of a policy, each by itself, and how that is printed.
+//!
+//! `check_files` takes settings and `CheckOptions` and gives what is printed. Below it `check` reads and compiles each
+//! file and gives a `CheckReport`: of each file its profiles with what is counted of them, or its faults and how many
+//! profiles it seems to hold. `push_report` and `push_faults` print it for people; `push_json_report`,
+//! `push_gcc_report` and `push_sarif_report` print the other forms that `Form` names. The meaning lies in the
+//! definitions `IsChecked` and `IsCheckOutput`. A file's policy is left to `aa_load`, the report on its first fault to
+//! `aa_diagnostics`, those behind it to `aa_faults`, and what its heads tell to `aa_skipped`. Other commands write
+//! their SARIF logs with `push_sarif_head` and `push_rule_members`.
+//!
+//! An example, from `aapolicy_tests` (`that_something_cannot_be_read_is_told_before_that_a_policy_is_refused`):
+//!
+//! ```text
+//! let rows = "/m=include <a>\n§/n=include <c>\n";
+//! let tree = tree_beside(&rt, rows, "/i/a", Unread::NotAFile);
+//! equal(&rt, prints(&rt, &tree, "/m /n", SAID), true);
+//! ```
 #![tactic(auto)]
 
 mod checked;

@@ -1,4 +1,15 @@
-//! What the commands on files share: their settings, the one policy of all files, what is said where nothing is answered, and how an output is written.
+//! What the commands on files share: their settings, the one policy of all files, what is said where nothing is
+//! answered, and how an output is written.
+//!
+//! A command takes `Settings` and arguments and gives an `Output`: answers, faults and an exit status. `with_policy`
+//! stands between: `rooted` finds the files that the arguments stand for, `load_units` reads them, `with_units`
+//! compiles them as one policy, and what implements `Use` gets this as `Decided`, with the places of its texts and
+//! rules. Where that fails, `unit_refused`, `policy_refused` and others say why in place of answers; `behind_warnings`
+//! puts warnings before an output, and `in_json` prints a refusal as JSON. `write_output` and `exit_status` end the
+//! program. `Logs` hands on the lines of logs. The meaning lies in the definition `IsPrintedFor`. Reading files is left
+//! to `aa_files`, compiling to `aa_load`, and sentences to `aa_diagnostics`.
+//!
+//! Shown by tests/policy_files/complain_by_a_folder_is_warned_of.
 #![tactic(auto)]
 
 mod decided;

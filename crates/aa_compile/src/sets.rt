@@ -26,6 +26,7 @@ fn perms_if(test: bool, perms: Perms) -> Perms
 }
 
 impl RuleSets {
+    /// No permission in any of the sets.
     pub fn none() -> RuleSets
         ensures { result ≡ nothing }
     {

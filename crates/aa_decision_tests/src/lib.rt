@@ -1,4 +1,26 @@
-//! Tests of what decides, from outside: automata, compiled policies, and the mediator; beside the rules said one by one, slow and the companion of what is compiled from them.
+//! Tests of what decides, from outside: automata, compiled policies, and the mediator; beside the rules said one by
+//! one, slow and the companion of what is compiled from them.
+//!
+//! A test spells policies as texts and requests as words: `policies_in` compiles the texts, `request` reads a word,
+//! `step` answers a task of a label, and `answered` tells the answer in words, all in the module `texts`. Each module
+//! of tests is named after what it asks, as `automaton_tests`, `region_tests` and `reachability_tests` are.
+//! `verdict_by_rules` is the one public call: it asks each pattern of a profile's file rules in turn, and its contract
+//! says the same as that of the compiled tables (definition `file_verdict`), so that both can be compared. What tasks
+//! are answered in whole jobs is left to `aa_engine_tests` and to stored jobs in `tests/jobs`.
+//!
+//! An example, from `aa_decision_tests` (`rows_say_what_the_rules_say`):
+//!
+//! ```text
+//! let compiled = compiled(rt.alloc(), text, 4096).expect(&rt, text);
+//! for path in PATHS.split(' ') {
+//!     for owned in [false, true] {
+//!         let profiles = compiled.policy().profiles.as_slice();
+//!         let profile = profiles.first().expect(&rt, "a profile");
+//!         let said = verdict_by_rules(profile.files.as_slice(), path.as_bytes(), owned);
+//!         equal_in(&rt, sets(&compiled, 0, path, owned), Some(said), path);
+//!     }
+//! }
+//! ```
 #![tactic(auto)]
 
 #[cfg(test)]

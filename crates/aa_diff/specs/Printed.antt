@@ -1,6 +1,6 @@
 -- Findings as they are printed.
 -- Source: own.
-use Rattle.std.specs.Prelude.{ℕ, List, [], ◌∷◌, ◌++◌, ◌==◌, ◌&&◌, not, Bool, true, false, codes, decimal, flat_map, Option, Some, None, if◌then◌else◌}
+use Rattle.std.specs.Prelude.{ℕ, List, [], ◌∷◌, ◌++◌, ◌==◌, ◌&&◌, not, bit_and, Bool, true, false, codes, decimal, flat_map, Option, Some, None, if◌then◌else◌}
 use Rattle.std.specs.List.{list_any}
 use Rattle.aa_base.specs.Values.{value}
 use Rattle.aa_model.specs.declared.policy.Policy.{Policy}
@@ -9,6 +9,7 @@ use Rattle.aa_model.specs.declared.request.Request.{Request}
 use Rattle.aa_model.specs.declared.request.Request.TheVariants.{File, Link, Exec, Change}
 use Rattle.aa_base.specs.declared.perms.Perms.{Perms}
 use Rattle.aa_compile.specs.Labels.{label_name}
+use Rattle.aa_compile.specs.Said.{perms_of, minus}
 use Rattle.aa_text.specs.Visible.{all_visible}
 use Rattle.aa_rule_text.specs.RuleTexts.{shortened}
 use Rattle.aa_notation.specs.Written.{word_text}
@@ -25,10 +26,22 @@ use Rattle.aa_diff.specs.Changes.{is_same}
 use Rattle.aa_diff.specs.Findings.{is_profile}
 use Rattle.aa_diff.specs.Lines.{Told, Found, PassedOver, label_of, is_of_profile}
 
+-- the permission to write, alone
+abbrev pub only_write : ℕ
+only_write = 2
+
+-- the permission to append, alone
+abbrev pub only_append : ℕ
+only_append = 4
+
 -- the task's user's objects
 abbrev pub is_owner : Who → Bool
 is_owner Owner = true
 is_owner _ = false
+
+-- the permissions that a line shows: what writes may append too, as in a rule
+abbrev pub shown_letters : Perms → Perms
+shown_letters p = if bit_and p.0 only_write == 0 then p else perms_of (minus p.0 only_append)
 
 -- a request by these permissions, for an object of the task's user or of another
 abbrev pub asked_by : Perms → Bool → Request → Request
@@ -37,9 +50,9 @@ asked_by letters owned (Link r) = Link (record { link = r.link; target = r.targe
 asked_by letters owned (Exec r) = Exec (record { path = r.path; owned = owned })
 asked_by letters owned r = r
 
--- the first request of a finding, by all its permissions
+-- the first request of a finding, by all its permissions as they are shown
 abbrev pub asked_of : Finding → Request
-asked_of f = asked_by f.letters (is_owner f.who) f.request
+asked_of f = asked_by (shown_letters f.letters) (is_owner f.who) f.request
 
 -- before the word of an object that is others' alone
 abbrev pub others_text : Who → List ℕ

@@ -5,7 +5,7 @@ ghost use Rattle.std.specs.List.{list_any};
 ghost use Rattle.aa_base.specs.Values.{value};
 ghost use Rattle.aa_notation.specs.Written.{word_text};
 ghost use Rattle.aa_diff.specs.declared.finding.Finding.{Finding};
-ghost use Rattle.aa_diff.specs.Printed.{is_owner, asked_by, asked_of, others_text, asked_text, sign_text, more_text, only_text, asked_part, change_part, finding_part, line_start, line_end, line_text, gone_text, name_asked, profile_part, profile_text, profile_if, free_if, is_free, is_behind, heading, side_text, rule_part, passed_over_text, told_text, confined_text, free_text};
+ghost use Rattle.aa_diff.specs.Printed.{is_owner, shown_letters, asked_by, asked_of, others_text, asked_text, sign_text, more_text, only_text, asked_part, change_part, finding_part, line_start, line_end, line_text, gone_text, name_asked, profile_part, profile_text, profile_if, free_if, is_free, is_behind, heading, side_text, rule_part, passed_over_text, told_text, confined_text, free_text};
 ghost use Rattle.aa_passed_over.specs.Apart.{apart};
 ghost use Rattle.aa_diff.specs.Lines.{told};
 
@@ -13,12 +13,14 @@ use crate::change::is_same;
 use crate::finding::{Finding, Who, is_profile, who_number};
 use crate::lines::{Line, label_of};
 use crate::signs::{Sign, is_confined};
+use aa_base::Perms;
 use aa_compile::{Compiled, name_of_label};
 use aa_model::{Label, Request, RequestFault};
 use aa_notation::push_word;
 use aa_passed_over::{Apart, Side};
 use aa_rule_text::shortened;
 use aa_text::{push_name, push_number, push_text, push_visible};
+use bitflags::Flags;
 use std::alloc::{AllocError, Global};
 
 fn is_owner(who: Who) -> bool
@@ -30,13 +32,29 @@ fn is_owner(who: Who) -> bool
     }
 }
 
+/// The permissions that a line shows: what writes may append too, as in a rule.
+fn shown_letters(letters: Perms) -> Perms
+    ensures { result ≡ shown_letters letters }
+{
+    if letters.intersects(Perms::WRITE) {
+        letters.difference(Perms::APPEND)
+    } else {
+        letters
+    }
+}
+
 // The request of a finding can be asked for, so that with its permissions can: what refuses it is answered with want of memory,
 // which the contracts leave free.
-fn asked_by(alloc: Global, finding: &Finding, owned: bool) -> Result<Request, RequestFault>
-    ensures { IfOk result (λ request. request ≡ asked_by finding.now.letters owned finding.now.request) }
+fn asked_by(
+    alloc: Global,
+    letters: Perms,
+    owned: bool,
+    request: &Request,
+) -> Result<Request, RequestFault>
+    ensures { IfOk result (λ asked. asked ≡ asked_by letters owned request.now) }
 {
-    match &finding.request {
-        Request::File(file) => Request::file(alloc, file.path(), finding.letters, owned),
+    match request {
+        Request::File(file) => Request::file(alloc, file.path(), letters, owned),
         Request::Link(link) => Request::link(alloc, link.link(), link.target(), owned),
         Request::Exec(exec) => Request::exec(alloc, exec.path(), owned),
         other => match other.try_clone() {
@@ -46,11 +64,12 @@ fn asked_by(alloc: Global, finding: &Finding, owned: bool) -> Result<Request, Re
     }
 }
 
-/// The first request of a finding, by all its permissions.
+/// The first request of a finding, by all its permissions as they are shown.
 fn asked_of(alloc: Global, finding: &Finding) -> Result<Request, AllocError>
     ensures { IfOk result (λ request. request ≡ asked_of finding.now) }
 {
-    match asked_by(alloc, finding, is_owner(finding.who)) {
+    let letters = shown_letters(finding.letters);
+    match asked_by(alloc, letters, is_owner(finding.who), &finding.request) {
         Ok(request) => Ok(request),
         Err(_) => Err(AllocError),
     }

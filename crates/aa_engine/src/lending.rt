@@ -31,6 +31,7 @@ impl<'q> Model for LentRequest<'q> {
 }
 
 impl<'q> LentRequest<'q> {
+    /// Lends a request.
     pub fn new(request: &'q Request) -> LentRequest<'q>
         ensures { result ≡ request.now }
     {
@@ -58,6 +59,7 @@ impl<'q, M> Model for Lent<'q, M> {
 }
 
 impl<'q, M> Lent<'q, M> {
+    /// Lends requests to a machine.
     pub fn new(machine: &'q M) -> Lent<'q, M>
         ensures { result ≡ machine.now }
     {

@@ -1,21 +1,18 @@
 -- Where the heads of profiles stand, and their flags without effect.
 -- Source: apparmor.d(5), "Profile Head"; own.
-use Rattle.std.specs.Prelude.{ℕ, ◌≡◌, List, [], ◌∷◌, ◌++◌, codes, flat_map, Option, Some, None, Bool, true, false, if◌then◌else◌}
+use Rattle.std.specs.Prelude.{ℕ, ◌≡◌, List, [], ◌∷◌, ◌++◌, flat_map, Option, Some, None, Bool, true, false, if◌then◌else◌}
 use Rattle.aa_base.specs.declared.fault.Spot.{Spot}
 use Rattle.aa_words.specs.declared.word.WordKind.{WordKind}
 use Rattle.aa_words.specs.declared.word.WordKind.TheVariants.{LeftParen, Name}
 use Rattle.aa_words.specs.Splits.{WordData, is_one_of}
 use Rattle.aa_rules.specs.Grammar.{spot_of}
+use Rattle.aa_policy.specs.Heads.{idle_flags}
 use Rattle.aa_explain.specs.declared.places.Extent.{Extent}
 
 -- where the first of some words stands
 abbrev pub first_spot : List WordData → Option Spot
 first_spot [] = None
 first_spot (w ∷ ws) = Some (spot_of w)
-
--- the flags that have no effect
-abbrev pub idle_flags : List (List ℕ)
-idle_flags = codes "attach_disconnected" ∷ codes "mediate_deleted" ∷ []
 
 -- a word among flags is one of these
 abbrev pub is_idle : WordKind → List ℕ → Bool

@@ -1,11 +1,12 @@
 //! Where the heads of profiles stand, and their flags without effect.
 
 ghost use Rattle.std.specs.Prelude.{◌≡◌, ◌<◌, ◌≤◌, ◌++◌, length, flat_map, OnOk, IfOk};
-ghost use Rattle.aa_words.specs.Splits.{is_one_of, word_data, words_data};
+ghost use Rattle.aa_words.specs.Splits.{word_data, words_data};
 ghost use Rattle.aa_rules.specs.Reading.{rest_of};
-ghost use Rattle.aa_explain.specs.Heads.{idle_flags, is_idle, if_idle, is_paren, behind_paren, IsPlacedHead};
+ghost use Rattle.aa_explain.specs.Heads.{is_idle, if_idle, is_paren, behind_paren, IsPlacedHead};
 
 use crate::places::Extent;
+use aa_policy::is_idle_flag;
 use aa_rules::spot_of;
 use aa_words::{Word, WordKind};
 use std::alloc::{AllocError, Global};
@@ -15,13 +16,6 @@ use std::alloc::{AllocError, Global};
 pub(crate) struct PlacedHead {
     pub(crate) place: Extent,
     pub(crate) flags: Vec<Extent>,
-}
-
-/// Whether a flag has no effect.
-fn is_idle_flag(name: &[u8]) -> bool
-    ensures { result ≡ is_one_of idle_flags name.now }
-{
-    name == "attach_disconnected".as_bytes() || name == "mediate_deleted".as_bytes()
 }
 
 /// Whether a word among flags is such a flag.

@@ -11,10 +11,11 @@ use Rattle.aa_jobs.specs.declared.job_fault.JobFault.TheVariants.{BadRequest, To
 use Rattle.aa_jobs.specs.declared.job.Task.{Task}
 use Rattle.aa_jobs.specs.declared.job.Event.{Event}
 use Rattle.aa_jobs.specs.declared.job.Job.{Job}
-use Rattle.aa_jobs.specs.Steps.{◌>>=◌, only_if, each}
-use Rattle.aa_jobs.specs.Written.{WrittenTask, WrittenEvent, WrittenJob}
+use Rattle.aa_jobs.specs.Steps.{◌>>=◌, needed, only_if, each}
+use Rattle.aa_jobs.specs.Made.{MadeTask, MadeEvent, MadeJob, event_in, is_there, made_sizes, meaning_in, task_in, works_in}
+use Rattle.aa_jobs.proofs.Made.{tested_is}
 use Rattle.aa_jobs.specs.Limits.{Sizes, lists_fit, numbers_fit, texts_fit, within_limits, include_sizes, job_sizes, keeps_limits, tasks_there, policies_there}
-use Rattle.aa_jobs.specs.Meaning.{work_of, task_of, event_name, event_of, if_true, sealed, written_sizes, meaning}
+use Rattle.aa_jobs.specs.Meaning.{if_true, sealed}
 
 bind_ok : {A B : Type 0} (given : Result A JobFault) (f : A → Result B JobFault) (z : B) → (given >>= f) ≡ Ok z → (y : A) × (given ≡ Ok y) × (f y ≡ Ok z)
 bind_ok (Ok y) f z e = (y, refl, e)
@@ -46,28 +47,31 @@ each_length {A = A} {B = B} f xs ys e =
     let none : map zero_of_b ys ≡ map zero_of_a xs = each_keeps f zero_of_b zero_of_a (λ x y h. refl) xs ys e in
     sym (length-map ys zero_of_b) ∙ ap length none ∙ length-map xs zero_of_a
 
-task_keeps : (n : ℕ) (w : WrittenTask) (t : Task) → task_of n w ≡ Ok t → length t.requests ≡ length w.items
-unfolding task_of
+task_keeps : (n : ℕ) (w : MadeTask) (t : Task) → task_in n w ≡ Ok t → length t.requests ≡ length w.items.works
+unfolding task_in
 task_keeps n w t e =
-    let a = bind_ok (only_if (nat_lt w.policy n) BadRequest) (λ _. each (work_of n) w.items >>= λ requests. Ok (record { label = w.label; policy = w.policy; requests = requests })) t e in
-    let b = bind_ok (each (work_of n) w.items) (λ requests. Ok (record { label = w.label; policy = w.policy; requests = requests })) t a.2 in
+    let a = bind_ok (only_if (nat_lt w.policy n) BadRequest)
+    (λ _. works_in n w.items >>= λ requests. Ok (record { label = w.label; policy = w.policy; requests = requests })) t e in
+    let b = bind_ok (works_in n w.items) (λ requests. Ok (record { label = w.label; policy = w.policy; requests = requests })) t a.2 in
     let made : Task = record { label = w.label; policy = w.policy; requests = b.0 } in
     let p : made ≡ t = cc (b.2) in
-    subst (λ (z : Task). length z.requests ≡ length w.items) p (each_length (work_of n) w.items b.0 b.1)
+    subst (λ (z : Task). length z.requests ≡ length w.items.works) p
+    (ap length (tested_is (w.items.are_good && list_all (is_there n) w.items.works) w.items.works b.0 b.1))
 
-policy_there : (n : ℕ) (w : WrittenTask) (t : Task) → task_of n w ≡ Ok t → nat_lt t.policy n ≡ true
-unfolding task_of
+policy_there : (n : ℕ) (w : MadeTask) (t : Task) → task_in n w ≡ Ok t → nat_lt t.policy n ≡ true
+unfolding task_in
 policy_there n w t e =
-    let a = bind_ok (only_if (nat_lt w.policy n) BadRequest) (λ _. each (work_of n) w.items >>= λ requests. Ok (record { label = w.label; policy = w.policy; requests = requests })) t e in
-    let b = bind_ok (each (work_of n) w.items) (λ requests. Ok (record { label = w.label; policy = w.policy; requests = requests })) t a.2 in
+    let a = bind_ok (only_if (nat_lt w.policy n) BadRequest)
+    (λ _. works_in n w.items >>= λ requests. Ok (record { label = w.label; policy = w.policy; requests = requests })) t e in
+    let b = bind_ok (works_in n w.items) (λ requests. Ok (record { label = w.label; policy = w.policy; requests = requests })) t a.2 in
     let made : Task = record { label = w.label; policy = w.policy; requests = b.0 } in
     let p : made ≡ t = cc (b.2) in
     subst (λ (z : Task). nat_lt z.policy n ≡ true) p (only_true (nat_lt w.policy n) BadRequest a.0 a.1)
 
-event_there : (n : ℕ) (w : WrittenEvent) (e : Event) → event_of n w ≡ Ok e → nat_lt e.task n ≡ true
-unfolding event_of
+event_there : (n : ℕ) (w : MadeEvent) (e : Event) → event_in n w ≡ Ok e → nat_lt e.task n ≡ true
+unfolding event_in
 event_there n w e h =
-    let a = bind_ok (event_name w.name) (λ name. only_if (nat_lt w.task n) BadRequest >>= λ _. Ok (record { task = w.task; name = name })) e h in
+    let a = bind_ok (needed BadRequest w.name) (λ name. only_if (nat_lt w.task n) BadRequest >>= λ _. Ok (record { task = w.task; name = name })) e h in
     let b = bind_ok (only_if (nat_lt w.task n) BadRequest) (λ _. Ok (record { task = w.task; name = a.0 })) e a.2 in
     let made : Event = record { task = w.task; name = a.0 } in
     let p : made ≡ e = cc (b.2) in
@@ -77,14 +81,15 @@ all_true : {A : Type 0} (xs : List A) → list_all (λ b. b) (map (λ _. true) x
 all_true [] = refl
 all_true (x ∷ xs) = all_true xs
 
-events_there : (n : ℕ) (ws : List WrittenEvent) (es : List Event) → each (event_of n) ws ≡ Ok es → tasks_there es n ≡ true
+events_there : (n : ℕ) (ws : List MadeEvent) (es : List Event) → each (event_in n) ws ≡ Ok es → tasks_there es n ≡ true
 events_there n ws es e =
-    let kept : map (λ z. nat_lt z.task n) es ≡ map (λ _. true) ws = each_keeps (event_of n) (λ z. nat_lt z.task n) (λ _. true) (event_there n) ws es e in
+    let kept : map (λ z. nat_lt z.task n) es ≡ map (λ _. true) ws = each_keeps (event_in n) (λ z. nat_lt z.task n) (λ _. true) (event_there n) ws es e in
     sym (list_all-map (λ b. b) (λ z. nat_lt z.task n) es) ∙ ap (list_all (λ b. b)) kept ∙ all_true ws
 
-tasks_policies_there : (n : ℕ) (ws : List WrittenTask) (ts : List Task) → each (task_of n) ws ≡ Ok ts → policies_there ts n ≡ true
+tasks_policies_there : (n : ℕ) (ws : List MadeTask) (ts : List Task) → each (task_in n) ws ≡ Ok ts → policies_there ts n ≡ true
 tasks_policies_there n ws ts e =
-    let kept : map (λ z. nat_lt z.policy n) ts ≡ map (λ _. true) ws = each_keeps (task_of n) (λ z. nat_lt z.policy n) (λ _. true) (policy_there n) ws ts e in
+    let kept : map (λ z. nat_lt z.policy n) ts ≡ map (λ _. true) ws = each_keeps (task_in n) (λ z. nat_lt z.policy n) (λ _. true)
+    (policy_there n) ws ts e in
     sym (list_all-map (λ b. b) (λ z. nat_lt z.policy n) ts) ∙ ap (list_all (λ b. b)) kept ∙ all_true ws
 
 pub capacity_fits : (s : Sizes) → within_limits s ≡ true → nat_le s.capacity 1024 ≡ true
@@ -95,16 +100,26 @@ capacity_fits s h =
 both : (a b : Bool) → a ≡ true → b ≡ true → (a && b) ≡ true
 both a b h k = rw (h, k)
 
-pub limits_kept : (w : WrittenJob) (ts : List Task) (es : List Event) → within_limits (written_sizes w) ≡ true
-    → each (task_of (length w.policies)) w.tasks ≡ Ok ts → each (event_of (length w.tasks)) w.events ≡ Ok es
+pub limits_kept : (w : MadeJob) (ts : List Task) (es : List Event) → within_limits (made_sizes w) ≡ true
+    → each (task_in (length w.policies)) w.tasks ≡ Ok ts → each (event_in (length w.tasks)) w.events ≡ Ok es
     → keeps_limits w.policies w.includes ts w.states w.capacity es ≡ true
 limits_kept w ts es within t e =
-    let items : map (λ z. length z.requests) ts ≡ map (λ z. length z.items) w.tasks = each_keeps (task_of (length w.policies)) (λ z. length z.requests) (λ z. length z.items) (task_keeps (length w.policies)) w.tasks ts t in
-    let events : length es ≡ length w.events = each_length (event_of (length w.tasks)) w.events es e in
-    let sizes : job_sizes w.policies w.includes ts w.states w.capacity es ≡ written_sizes w =
+    let items : map (λ z. length z.requests) ts ≡ map (λ z. length z.items.works) w.tasks = each_keeps (task_in (length w.policies))
+    (λ z. length z.requests) (λ z. length z.items.works) (task_keeps (length w.policies)) w.tasks ts t in
+    let events : length es ≡ length w.events = each_length (event_in (length w.tasks)) w.events es e in
+    let sizes : job_sizes w.policies w.includes ts w.states w.capacity es ≡ made_sizes w =
     ap (λ (m : List ℕ). let s : Sizes = record { policies = map length w.policies; includes = include_sizes w.includes; tasks = m; states = w.states; capacity = w.capacity; events = length es } in s) items
-    ∙ ap (λ (n : ℕ). let s : Sizes = record { policies = map length w.policies; includes = include_sizes w.includes; tasks = map (λ z. length z.items) w.tasks; states = w.states; capacity = w.capacity; events = n } in s) events in
-    let there : tasks_there es (length ts) ≡ true = ap (tasks_there es) (each_length (task_of (length w.policies)) w.tasks ts t) ∙ events_there (length w.tasks) w.events es e in
+    ∙ ap (λ (n : ℕ). let s : Sizes = record {
+      policies = map length w.policies;
+      includes = include_sizes w.includes;
+      tasks =
+          map (λ z. length z.items.works) w.tasks;
+      states = w.states;
+      capacity = w.capacity;
+      events = n;
+    } in s) events in
+    let there : tasks_there es (length ts) ≡ true = ap (tasks_there es) (each_length (task_in (length w.policies)) w.tasks ts t)
+    ∙ events_there (length w.tasks) w.events es e in
     let policies : policies_there ts (length w.policies) ≡ true = tasks_policies_there (length w.policies) w.tasks ts t in
     both (within_limits (job_sizes w.policies w.includes ts w.states w.capacity es) && tasks_there es (length ts)) (policies_there ts (length w.policies))
     (both (within_limits (job_sizes w.policies w.includes ts w.states w.capacity es)) (tasks_there es (length ts))
@@ -117,14 +132,14 @@ if_true_is true f other h =
 if_true_is false f other h = absurd cc
 
 -- a job is the one of its parts
-sealed_is : (j : Job) → sealed j.policies j.several j.includes j.tasks j.states j.capacity j.events ≡ Ok j
+pub sealed_is : (j : Job) → sealed j.policies j.several j.includes j.tasks j.states j.capacity j.events ≡ Ok j
 unfolding sealed
 sealed_is j = if_true_is (keeps_limits j.policies j.includes j.tasks j.states j.capacity j.events)
     (λ kept. Ok (record { policies = j.policies; several = j.several; includes = j.includes; tasks = j.tasks; states = j.states; capacity = j.capacity; events = j.events; limits = kept }))
     (Err TooLarge) j.limits
 
-pub meaning_is : (w : WrittenJob) (j : Job) → each (task_of (length w.policies)) w.tasks ≡ Ok j.tasks
-    → each (event_of (length w.tasks)) w.events ≡ Ok j.events → w.policies ≡ j.policies → w.several ≡ j.several → w.includes ≡ j.includes
-    → w.states ≡ j.states → w.capacity ≡ j.capacity → meaning w ≡ Ok j
-unfolding meaning
+pub meaning_is : (w : MadeJob) (j : Job) → each (task_in (length w.policies)) w.tasks ≡ Ok j.tasks
+    → each (event_in (length w.tasks)) w.events ≡ Ok j.events → w.policies ≡ j.policies → w.several ≡ j.several → w.includes ≡ j.includes
+    → w.states ≡ j.states → w.capacity ≡ j.capacity → meaning_in w ≡ Ok j
+unfolding meaning_in
 meaning_is w j t e p m i s c = rw (t, e, p, m, i, s, c) (sealed_is j)

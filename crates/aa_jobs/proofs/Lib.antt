@@ -4,6 +4,7 @@ pub mod Json
 pub mod Kept
 pub mod Keys
 pub mod Looks
+pub mod Made
 pub mod Numbers
 pub mod Parts
 pub mod Plain

@@ -18,10 +18,11 @@ use Rattle.std.specs.Prelude.{⊤}
 use Rattle.aa_jobs.specs.declared.job_fault.JobFault.{JobFault}
 use Rattle.aa_jobs.specs.declared.shape.Part.TheVariants.{Whole, OfTask}
 use Rattle.aa_jobs.specs.declared.job_fault.JobFault.TheVariants.{NoMemory, NotJson, BadShape, BadRequest, TooLarge}
+use Rattle.aa_jobs.specs.Made.{MadeJob, made_items, made_items_shape, made_job, made_job_shape, made_task, made_task_shape, mapped}
 use Rattle.aa_jobs.specs.Shape.{data_list, fits, fits_members, item_shape, job_shape, list_in, request_shape, task_shape}
 use Rattle.aa_jobs.specs.Steps.{◌>>=◌, each, needed, only_if, Gives, Refuses}
 use Rattle.aa_jobs.specs.Stream.{AgreeBut, Apart, Shaped, followed, shape_at, written_as}
-use Rattle.aa_jobs.specs.Written.{WrittenItem, WrittenJob}
+use Rattle.aa_jobs.specs.Written.{WrittenItem}
 use Rattle.aa_jobs.proofs.Conversion.{array_converted, converted_is, item_read, item_refused, items_over, object_converted, whole_and_more, whole_read, whole_refused}
 use Rattle.aa_jobs.proofs.Rows.{passes_on}
 
@@ -257,12 +258,17 @@ pub not_listed : {B : Type 0} (f : Data → Result B JobFault) (d : Data) → as
 not_listed f d none = ap (λ a. needed BadShape (option_map data_list a) >>= each f) none
 
 -- a value that begins with another token than a bracket is read past, and is no list
-pub passed_list : {X B : Type 0} (view : X → List B) (f : Data → Result B JobFault) (depth : ℕ) (ts rest new : List Token) (t : Token) → ts ≡ t ∷ rest → is_bracket t ≡ false
-    → needed NotJson (left (converted of_json (value depth (t ∷ rest)))) ≡ Ok new → Shaped view (Err BadShape) new (parse_map (λ d. list_in d >>= each f) (converted of_json (value depth ts)))
-passed_list view f depth ts rest new t is other passed =
+pub passed_list : {X Y : Type 0} (view : X → Y) (f : Data → Result Y JobFault) → ((d : Data) → as_array d ≡ None → f d ≡ Err BadShape)
+    → (depth : ℕ) (ts rest new : List Token) (t : Token) → ts ≡ t ∷ rest → is_bracket t ≡ false
+    → needed NotJson (left (converted of_json (value depth (t ∷ rest)))) ≡ Ok new
+    → Shaped view (Err BadShape) new (parse_map f (converted of_json (value depth ts)))
+passed_list view f refuses depth ts rest new t is other passed =
     let d = left_some (converted of_json (value depth (t ∷ rest))) new (needed_is NotJson _ _ passed) in
-    shaped_by view (Err BadShape) (λ x. list_in x >>= each f) (converted of_json (value depth ts)) d.0 new
-    (ap (λ x. converted of_json (value depth x)) is ∙ d.1) (not_listed f d.0 (no_array depth t rest new d.0 other d.1))
+    shaped_by view (Err BadShape) f (converted of_json (value depth ts)) d.0 new (ap (λ x. converted of_json (value depth x)) is ∙ d.1)
+    (refuses d.0 (no_array depth t rest new d.0 other d.1))
+
+pub no_items : (d : Data) → as_array d ≡ None → made_items_shape d ≡ Err BadShape
+no_items d none = ap (mapped made_items) (not_listed item_shape d none)
 
 -- a value that begins with another token than a brace is read past, and is no object
 pub passed_object : {X Y : Type 0} (view : X → Y) (f : Data → Result Y JobFault) → ((d : Data) → as_object d ≡ None → f d ≡ Err BadShape)
@@ -275,13 +281,13 @@ passed_object view f refuses depth ts rest new t is other passed =
 refused_first : {A : Type 0} (b : Bool) (f : ⊤ → Result A JobFault) → b ≡ false → (only_if b BadShape >>= f) ≡ Err BadShape
 refused_first b f e = ap (λ x. only_if x BadShape >>= f) e
 
-pub no_task : (d : Data) → as_object d ≡ None → task_shape d ≡ Err BadShape
+pub no_task : (d : Data) → as_object d ≡ None → made_task_shape d ≡ Err BadShape
 unfolding task_shape
-no_task d none = refused_first (fits OfTask d) _ (ap (fits_members OfTask) none)
+no_task d none = ap (mapped made_task) (refused_first (fits OfTask d) _ (ap (fits_members OfTask) none))
 
-pub no_job : (d : Data) → as_object d ≡ None → job_shape d ≡ Err BadShape
+pub no_job : (d : Data) → as_object d ≡ None → made_job_shape d ≡ Err BadShape
 unfolding job_shape
-no_job d none = refused_first (fits Whole d) _ (ap (fits_members Whole) none)
+no_job d none = ap (mapped made_job) (refused_first (fits Whole d) _ (ap (fits_members Whole) none))
 
 -- what is neither an object nor a text is no item
 no_item : (d : Data) → as_object d ≡ None → as_str d ≡ None → item_shape d ≡ Err BadShape
@@ -424,28 +430,31 @@ past_object depth ts some =
 abbrev pub read_text : List ℕ → Option (Data × List Token)
 read_text text = converted of_json (value 127 (tokens text))
 
-abbrev meant : Option Data → Result WrittenJob JobFault
-meant o = needed NotJson o >>= job_shape
+abbrev meant : Option Data → Result MadeJob JobFault
+meant o = mapped made_job (needed NotJson o >>= job_shape)
 
-pub text_shaped : {X : Type 0} (view : X → WrittenJob) (inner : Result X JobFault) (text : List ℕ) (rest : List Token)
-    → Shaped view inner rest (parse_map job_shape (read_text text)) → rest ≡ [] → Gives view inner (written_as text)
+pub text_shaped : {X : Type 0} (view : X → MadeJob) (inner : Result X JobFault) (text : List ℕ) (rest : List Token)
+    → Shaped view inner rest (parse_map made_job_shape (read_text text)) → rest ≡ [] → Gives view inner (mapped made_job (written_as text))
 text_shaped view inner text rest h over =
-    let d = shaped_is view inner job_shape (read_text text) rest h in
+    let d = shaped_is view inner made_job_shape (read_text text) rest h in
     subst (λ g. Gives view inner g) (sym (ap meant (whole_read (value 127 (tokens text)) d.0 (d.1 ∙ ap (λ r. Some (d.0, r)) over)))) d.2
 
-pub text_more : {X : Type 0} (view : X → WrittenJob) (inner : Result X JobFault) (text : List ℕ) (rest : List Token) (t : Token) (ts : List Token) → Shaped view inner rest (parse_map job_shape (read_text text)) → rest ≡ t ∷ ts
-    → written_as text ≡ Err NotJson
+pub text_more : {X : Type 0} (view : X → MadeJob) (inner : Result X JobFault) (text : List ℕ) (rest : List Token) (t : Token) (ts : List Token)
+    → Shaped view inner rest (parse_map made_job_shape (read_text text))
+    → rest ≡ t ∷ ts → mapped made_job (written_as text) ≡ Err NotJson
 text_more view inner text rest t ts h more =
-    let d = shaped_is view inner job_shape (read_text text) rest h in
+    let d = shaped_is view inner made_job_shape (read_text text) rest h in
     ap meant (whole_and_more (value 127 (tokens text)) d.0 t ts (d.1 ∙ ap (λ r. Some (d.0, r)) more))
 
 abbrev whole_of : List ℕ → Option Data
 whole_of text = read text
 
 meant_none : (e : JobFault) (o : Option Data) → Refuses e (needed NotJson o) → Refuses e (meant o)
-meant_none e o h = passes_on e (needed NotJson o) (meant o) (λ d k. ap (λ r. r >>= job_shape) k) h
+meant_none e o h = passes_on e (needed NotJson o) (meant o) (λ d k. ap (λ r. mapped made_job (r >>= job_shape)) k) h
 
-pub text_refused : (e : JobFault) (text : List ℕ) → Refuses e (needed NotJson (parse_map job_shape (read_text text))) → Refuses e (written_as text)
+pub text_refused : (e : JobFault) (text : List ℕ) → Refuses e (needed NotJson (parse_map made_job_shape (read_text text)))
+    → Refuses e (mapped made_job (written_as text))
 text_refused e text h =
-    let none : parse_map job_shape (read_text text) ≡ None → whole_of text ≡ None = λ n. whole_refused (value 127 (tokens text)) (unmapped job_shape (read_text text) n) in
-    meant_none e (whole_of text) (none_on e (parse_map job_shape (read_text text)) (whole_of text) none h)
+    let none : parse_map made_job_shape (read_text text) ≡ None → whole_of text
+    ≡ None = λ n. whole_refused (value 127 (tokens text)) (unmapped made_job_shape (read_text text) n) in
+    meant_none e (whole_of text) (none_on e (parse_map made_job_shape (read_text text)) (whole_of text) none h)

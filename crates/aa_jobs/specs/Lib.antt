@@ -1,6 +1,7 @@
 pub mod Items
 pub mod Jobs
 pub mod Limits
+pub mod Made
 pub mod Meaning
 pub mod Parts
 pub mod Raw

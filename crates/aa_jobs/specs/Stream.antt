@@ -9,21 +9,13 @@ use Rattle.serde_json.specs.Read.{read}
 use Rattle.aa_jobs.specs.declared.job_fault.JobFault.{JobFault}
 use Rattle.aa_jobs.specs.declared.job_fault.JobFault.TheVariants.{NotJson, BadShape}
 use Rattle.aa_jobs.specs.declared.shape.Part.{Part}
-use Rattle.aa_jobs.specs.Shape.{has_only, item_shape, job_shape, list_in, task_shape}
-use Rattle.aa_jobs.specs.Steps.{◌>>=◌, each, needed, Gives, Refuses}
-use Rattle.aa_jobs.specs.Written.{WrittenItem, WrittenTask, WrittenJob}
+use Rattle.aa_jobs.specs.Shape.{has_only, job_shape}
+use Rattle.aa_jobs.specs.Steps.{◌>>=◌, needed, Gives, Refuses}
+use Rattle.aa_jobs.specs.Written.{WrittenJob}
 
 -- what stands in the job that a text is
 abbrev pub written_as : List ℕ → Result WrittenJob JobFault
 written_as text = needed NotJson (read text) >>= job_shape
-
--- the items of a value that has to be a list
-abbrev pub items_shape : Data → Result (List WrittenItem) JobFault
-items_shape d = list_in d >>= each item_shape
-
--- the tasks of a value that has to be a list
-abbrev pub tasks_shape : Data → Result (List WrittenTask) JobFault
-tasks_shape d = list_in d >>= each task_shape
 
 -- what stands behind a key that has to be there
 abbrev pub shape_at : {A : Type 0} → (Data → Result A JobFault) → List ℕ → Members → Result A JobFault

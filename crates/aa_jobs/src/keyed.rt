@@ -1,6 +1,6 @@
 //! An item of a task: its members are kept by their keys, which are looked up once, and values of other kinds than an item asks for alike.
 
-ghost use Rattle.std.specs.Prelude.{◌≡◌, ◌∷◌, [], true, map, option_map, IfOk, IfSome, Ok};
+ghost use Rattle.std.specs.Prelude.{◌≡◌, ◌∷◌, [], true, map, option_map, IfOk, IfSome, Ok, Some};
 ghost use Rattle.std.specs.List.{list_all, list_any};
 ghost use Rattle.std.specs.Str.{bytes_eq};
 ghost use Rattle.serde_json.specs.Data.{Data, Members, object, put};
@@ -46,10 +46,24 @@ pub enum ItemValue<'t> {
 /// A member of an item.
 pub type ItemMember<'t> = (ItemKey, ItemValue<'t>);
 
+/// The keys of a file's item, which most items are.
+fn plain_key(name: &[u8]) -> Option<ItemKey>
+    ensures { IfSome result (λ key. key_of name.now ≡ Some key) }
+{
+    match name {
+        [b'f', b'i', b'l', b'e'] => Some(ItemKey::File),
+        [b'm', b'a', b's', b'k'] => Some(ItemKey::Mask),
+        _ => None,
+    }
+}
+
 /// The key of that name.
 fn key_named(name: &str) -> Option<ItemKey>
     ensures { result ≡ key_of name.now }
 {
+    if let Some(key) = plain_key(name.as_bytes()) {
+        return Some(key);
+    }
     if name == "file" {
         Some(ItemKey::File)
     } else if name == "mask" {

@@ -3,13 +3,15 @@
 ghost use Rattle.std.specs.Prelude.{◌≡◌, length, map, nat_le};
 ghost use Rattle.std.specs.List.{list_all};
 ghost use Rattle.aa_jobs.specs.Limits.{include_sizes, policies_fit, texts_fit, lists_fit, numbers_fit, within_limits};
-ghost use Rattle.aa_jobs.specs.Meaning.{written_sizes};
-ghost use Rattle.aa_jobs.specs.Raw.{raw_text, raw_include, raw_task, raw_job};
+ghost use Rattle.aa_jobs.specs.Made.{made_sizes};
+ghost use Rattle.aa_jobs.specs.Raw.{raw_task, raw_job};
 
-use crate::raw::{RawInclude, RawJob, RawTask};
+use crate::raw::{RawJob, RawTask};
+use aa_base::Text;
+use aa_words::Include;
 
 /// How many policies there may be.
-const MAX_POLICIES: usize = 16;
+pub const MAX_POLICIES: u16 = 16;
 
 /// How many bytes each policy's text, and each included one, may have.
 const MAX_TEXT: usize = 1_048_576;
@@ -32,54 +34,56 @@ const MAX_STATES: u64 = 1_000_000;
 /// How many requests a lane may hold.
 const MAX_CAPACITY: u64 = 1024;
 
-fn all_texts_fit(includes: &[RawInclude]) -> bool
-    ensures { result ≡ list_all (λ i. nat_le (length i.text.now) 1048576) includes.now }
+fn all_texts_fit(includes: &[Include]) -> bool
+    ensures { result ≡ list_all (λ i. nat_le (length i.text) 1048576) includes.now }
 {
     includes
         .iter()
-        .all(|include| include.text.len() <= MAX_TEXT)
+        .all(|include| include.text.as_slice().len() <= MAX_TEXT)
 }
 
-fn each_text_fits(includes: &[RawInclude]) -> bool
-    ensures { result ≡ list_all (λ n. nat_le n 1048576) (include_sizes (map raw_include includes.now)) }
+fn each_text_fits(includes: &[Include]) -> bool
+    ensures { result ≡ list_all (λ n. nat_le n 1048576) (include_sizes includes.now) }
 {
     all_texts_fit(includes)
 }
 
 fn all_tasks_fit(tasks: &[RawTask]) -> bool
-    ensures { result ≡ list_all (λ t. nat_le (length t.items.items) 65536) tasks.now }
+    ensures { result ≡ list_all (λ t. nat_le (length t.items.works.items) 65536) tasks.now }
 {
-    tasks.iter().all(|task| task.items.len() <= MAX_ITEMS)
+    tasks.iter().all(|task| task.items.works.len() <= MAX_ITEMS)
 }
 
 fn each_task_fits(tasks: &[RawTask]) -> bool
-    ensures { result ≡ list_all (λ n. nat_le n 65536) (map (λ t. length t.items) (map raw_task tasks.now)) }
+    ensures { result ≡ list_all (λ n. nat_le n 65536) (map (λ t. length t.items.works) (map raw_task tasks.now)) }
 {
     all_tasks_fit(tasks)
 }
 
-fn all_policies_fit(policies: &[&str]) -> bool
-    ensures { result ≡ list_all (λ p. nat_le (length p.now) 1048576) policies.now }
+fn all_policies_fit(policies: &[Text]) -> bool
+    ensures { result ≡ list_all (λ p. nat_le (length p) 1048576) policies.now }
 {
-    policies.iter().all(|policy| policy.len() <= MAX_TEXT)
+    policies
+        .iter()
+        .all(|policy| policy.as_slice().len() <= MAX_TEXT)
 }
 
-fn each_policy_fits(policies: &[&str]) -> bool
-    ensures { result ≡ list_all (λ n. nat_le n 1048576) (map length (map raw_text policies.now)) }
+fn each_policy_fits(policies: &[Text]) -> bool
+    ensures { result ≡ list_all (λ n. nat_le n 1048576) (map length policies.now) }
 {
     all_policies_fit(policies)
 }
 
 fn policies_within(job: &RawJob) -> bool
-    ensures { result ≡ policies_fit (written_sizes (raw_job job.now)) }
+    ensures { result ≡ policies_fit (made_sizes (raw_job job.now)) }
 {
     1 <= job.policies.len()
-        && job.policies.len() <= MAX_POLICIES
+        && job.policies.len() <= MAX_POLICIES as usize
         && each_policy_fits(job.policies.as_slice())
 }
 
 fn texts_within(job: &RawJob) -> bool
-    ensures { result ≡ texts_fit (written_sizes (raw_job job.now)) }
+    ensures { result ≡ texts_fit (made_sizes (raw_job job.now)) }
 {
     policies_within(job)
         && job.includes.len() <= MAX_INCLUDES
@@ -87,7 +91,7 @@ fn texts_within(job: &RawJob) -> bool
 }
 
 fn lists_within(job: &RawJob) -> bool
-    ensures { result ≡ lists_fit (written_sizes (raw_job job.now)) }
+    ensures { result ≡ lists_fit (made_sizes (raw_job job.now)) }
 {
     job.tasks.len() <= MAX_TASKS
         && each_task_fits(job.tasks.as_slice())
@@ -95,14 +99,14 @@ fn lists_within(job: &RawJob) -> bool
 }
 
 fn numbers_within(job: &RawJob) -> bool
-    ensures { result ≡ numbers_fit (written_sizes (raw_job job.now)) }
+    ensures { result ≡ numbers_fit (made_sizes (raw_job job.now)) }
 {
     1 <= job.states && job.states <= MAX_STATES && 1 <= job.capacity && job.capacity <= MAX_CAPACITY
 }
 
 /// Whether nothing that stands in the job is over its limit.
 pub fn is_within_limits(job: &RawJob) -> bool
-    ensures { result ≡ within_limits (written_sizes (raw_job job.now)) }
+    ensures { result ≡ within_limits (made_sizes (raw_job job.now)) }
 {
     texts_within(job) && lists_within(job) && numbers_within(job)
 }

@@ -1,18 +1,22 @@
 //! What stands in a job means these tasks and events, or `BadRequest`.
 
-ghost use Rattle.std.specs.Prelude.{◌≡◌, ◌==◌, map, true, false, Result, IfOk, IfSome, MatchOption};
+ghost use Rattle.std.specs.Prelude.{◌≡◌, ◌++◌, ◌∷◌, [], ◌==◌, List, map, true, false, Result, IfErr, IfOk, IfSome, MatchOption, OnOk};
 ghost use Rattle.std.specs.List.{list_any, list_all};
+ghost use Rattle.aa_jobs.specs.declared.job_fault.JobFault.TheVariants.{NoMemory};
 ghost use Rattle.aa_jobs.specs.Steps.{Gives, each};
 ghost use Rattle.aa_jobs.specs.Limits.{within_limits};
-ghost use Rattle.aa_jobs.specs.Meaning.{is_letter, bit_if, mask_bits, file_request, link_request, exec_request, cap_request, net_request, change_request, reload_request, asked, work_of, task_of, event_name, event_of, written_sizes, meaning};
-ghost use Rattle.aa_jobs.specs.Raw.{raw_text, raw_item, raw_task, raw_event, raw_include, raw_job};
+ghost use Rattle.aa_jobs.specs.declared.job.Work.TheVariants.{Ask};
+ghost use Rattle.aa_jobs.specs.Made.{event_in, is_there, made_items, made_sizes, meaning_in, task_in, works_in};
+ghost use Rattle.aa_jobs.specs.Meaning.{is_letter, bit_if, mask_bits, file_request, link_request, exec_request, cap_request, net_request, change_request, reload_request, asked, work_of};
+ghost use Rattle.aa_jobs.specs.Raw.{kept_work, raw_item, raw_items, raw_task, raw_event, raw_job};
+ghost use Rattle.aa_jobs.specs.Written.{WrittenItem};
 
-use crate::job::{Event, EventName, Job, Task, Work};
+use crate::job::{Event, Job, Task, Work};
 use crate::job_fault::JobFault;
-use crate::raw::{RawEvent, RawInclude, RawItem, RawJob, RawTask};
-use aa_base::{Cap, Family, Perms, Seq, SockType, Text};
+use crate::limits::MAX_POLICIES;
+use crate::raw::{KeptWork, RawEvent, RawItem, RawItems, RawJob, RawTask};
+use aa_base::{Cap, Family, Perms, Seq, SockType};
 use aa_model::{Request, RequestFault};
-use aa_words::Include;
 use bitflags::Flags;
 use std::alloc::{AllocError, Global};
 
@@ -152,21 +156,36 @@ fn reload_work(policy: u64, policies: u16) -> Result<Request, JobFault>
     }
 }
 
-fn asked(request: Result<Request, JobFault>) -> Result<Work, JobFault>
-    ensures { (given : Result Request JobFault) → Gives (λ r. r) request given → Gives (λ w. w) result (asked given) }
+/// The request, as it is kept.
+fn kept(request: Request) -> KeptWork
+    ensures { kept_work result ≡ Ask request }
 {
     match request {
-        Ok(request) => Ok(Work::Ask(request)),
+        Request::File(file) => KeptWork::File(file),
+        Request::Link(link) => KeptWork::Link(link),
+        Request::Exec(exec) => KeptWork::Exec(exec),
+        Request::Cap(cap) => KeptWork::Cap(cap),
+        Request::Net(family, kind) => KeptWork::Net(family, kind),
+        Request::Change(change) => KeptWork::Change(change),
+        Request::Reload(policy) => KeptWork::Reload(policy),
+    }
+}
+
+fn asked(request: Result<Request, JobFault>) -> Result<KeptWork, JobFault>
+    ensures { (given : Result Request JobFault) → Gives (λ r. r) request given → Gives kept_work result (asked given) }
+{
+    match request {
+        Ok(request) => Ok(kept(request)),
         Err(fault) => Err(fault),
     }
 }
 
 #[tactic(auto, unfolding(crate::specs::Meaning::work_of))]
-fn work(alloc: Global, item: &RawItem, policies: u16) -> Result<Work, JobFault>
-    ensures { Gives (λ w. w) result (work_of policies (raw_item item.now)) }
+fn work(alloc: Global, item: &RawItem, policies: u16) -> Result<KeptWork, JobFault>
+    ensures { Gives kept_work result (work_of policies (raw_item item.now)) }
 {
     match item {
-        RawItem::Exit => Ok(Work::Exit),
+        RawItem::Exit => Ok(KeptWork::Exit),
         RawItem::File {
             owned,
             path,
@@ -185,35 +204,103 @@ fn work(alloc: Global, item: &RawItem, policies: u16) -> Result<Work, JobFault>
     }
 }
 
-fn works(alloc: Global, items: &[RawItem], policies: u16) -> Result<Vec<Work>, JobFault>
-    ensures { Gives (λ v. v.items) result (each (work_of policies) (map raw_item items.now)) }
+/// Adds what one more item asks, in a job of as many policies as there may be.
+pub fn add_item(alloc: Global, items: &mut RawItems, item: &RawItem) -> Result<(), JobFault>
+    ensures added { (ws : List WrittenItem) → raw_items items.old ≡ made_items ws → OnOk result (raw_items items.new ≡ made_items (ws ++ raw_item item.now ∷ [])) }
+    ensures cause { IfErr result (λ e. e ≡ NoMemory) }
 {
-    let mut requests = Vec::with_capacity(alloc, items.len())?;
-    for item in items {
-        requests.push(work(alloc, item, policies)?)?;
+    match work(alloc, item, MAX_POLICIES) {
+        Ok(work) => items.works.push(work)?,
+        Err(JobFault::NoMemory) => return Err(JobFault::NoMemory),
+        Err(_) => {
+            items.are_good = false;
+            items.works.push(KeptWork::Exit)?;
+        }
     }
-    Ok(requests)
+    Ok(())
 }
 
-#[tactic(auto, unfolding(crate::specs::Meaning::task_of))]
-fn task(alloc: Global, raw: RawTask, policies: u16) -> Result<Task, JobFault>
-    ensures { Gives (λ t. t) result (task_of policies (raw_task raw.entry)) }
+fn is_there(kept: &KeptWork, policies: u16) -> bool
+    ensures { result ≡ is_there policies (kept_work kept.now) }
 {
-    if raw.policy >= policies as u64 {
+    match kept {
+        KeptWork::Reload(policy) => *policy < policies,
+        _ => true,
+    }
+}
+
+fn are_there(list: &[KeptWork], policies: u16) -> bool
+    ensures { result ≡ list_all (λ k. is_there policies (kept_work k)) list.now }
+{
+    list.iter().all(|kept| is_there(kept, policies))
+}
+
+fn each_is_there(list: &[KeptWork], policies: u16) -> bool
+    ensures { result ≡ list_all (is_there policies) (map kept_work list.now) }
+{
+    are_there(list, policies)
+}
+
+fn asked_work(kept: KeptWork) -> Work
+    ensures { result ≡ kept_work kept }
+{
+    match kept {
+        KeptWork::Exit => Work::Exit,
+        KeptWork::File(file) => Work::Ask(Request::File(file)),
+        KeptWork::Link(link) => Work::Ask(Request::Link(link)),
+        KeptWork::Exec(exec) => Work::Ask(Request::Exec(exec)),
+        KeptWork::Cap(cap) => Work::Ask(Request::Cap(cap)),
+        KeptWork::Net(family, kind) => Work::Ask(Request::Net(family, kind)),
+        KeptWork::Change(change) => Work::Ask(Request::Change(change)),
+        KeptWork::Reload(policy) => Work::Ask(Request::Reload(policy)),
+    }
+}
+
+fn asked_works(alloc: Global, list: Vec<KeptWork>) -> Result<Vec<Work>, AllocError>
+    ensures { IfOk result (λ v. v.items ≡ map kept_work list.items) }
+{
+    let mut works = Vec::with_capacity(alloc, list.len())?;
+    for kept in list {
+        works.push(asked_work(kept))?;
+    }
+    Ok(works)
+}
+
+/// What the items ask, where each can be asked for and each policy that they name is one of that many.
+fn works(alloc: Global, items: RawItems, policies: u16) -> Result<Vec<Work>, JobFault>
+    ensures { Gives (λ v. v.items) result (works_in policies (raw_items items)) }
+{
+    let RawItems { works, are_good } = items;
+    if are_good && each_is_there(works.as_slice(), policies) {
+        Ok(asked_works(alloc, works)?)
+    } else {
+        Err(JobFault::BadRequest)
+    }
+}
+
+#[tactic(auto, unfolding(crate::specs::Made::task_in))]
+fn task(alloc: Global, raw: RawTask, policies: u16) -> Result<Task, JobFault>
+    ensures { Gives (λ t. t) result (task_in policies (raw_task raw)) }
+{
+    let RawTask {
+        label,
+        policy,
+        items,
+    } = raw;
+    if policy >= policies as u64 {
         return Err(JobFault::BadRequest);
     }
-    let requests = works(alloc, raw.items.as_slice(), policies)?;
-    let label = Text::copy_of(alloc, raw.label.as_bytes())?;
+    let requests = works(alloc, items, policies)?;
     Ok(Task {
         label,
-        policy: raw.policy as u16,
+        policy: policy as u16,
         requests: Seq::from_vec(requests),
     })
 }
 
-/// The tasks. Each written one is let go once its task is made.
+/// The tasks.
 fn tasks(alloc: Global, list: Vec<RawTask>, policies: u16) -> Result<Vec<Task>, JobFault>
-    ensures { Gives (λ v. v.items) result (each (task_of policies) (map raw_task list.entry.items)) }
+    ensures { Gives (λ v. v.items) result (each (task_in policies) (map raw_task list.items)) }
 {
     let mut tasks = Vec::with_capacity(alloc, list.len())?;
     for raw in list {
@@ -222,30 +309,12 @@ fn tasks(alloc: Global, list: Vec<RawTask>, policies: u16) -> Result<Vec<Task>, 
     Ok(tasks)
 }
 
-fn name_of(name: &str) -> Result<EventName, JobFault>
-    ensures { Gives (λ n. n) result (event_name name.now) }
-{
-    if name == "send" {
-        Ok(EventName::Send)
-    } else if name == "take" {
-        Ok(EventName::Take)
-    } else if name == "finish" {
-        Ok(EventName::Finish)
-    } else if name == "collect" {
-        Ok(EventName::Collect)
-    } else if name == "shut" {
-        Ok(EventName::Shut)
-    } else {
-        Err(JobFault::BadRequest)
-    }
-}
-
 /// An event, at one of that many tasks.
-#[tactic(auto, unfolding(crate::specs::Meaning::event_of))]
+#[tactic(auto, unfolding(crate::specs::Made::event_in))]
 fn event(raw: &RawEvent, tasks: u32) -> Result<Event, JobFault>
-    ensures { Gives (λ e. e) result (event_of tasks (raw_event raw.now)) }
+    ensures { Gives (λ e. e) result (event_in tasks (raw_event raw.now)) }
 {
-    let name = name_of(raw.name)?;
+    let name = raw.name.ok_or(JobFault::BadRequest)?;
     if raw.task < tasks as u64 {
         Ok(Event {
             task: raw.task as u32,
@@ -257,7 +326,7 @@ fn event(raw: &RawEvent, tasks: u32) -> Result<Event, JobFault>
 }
 
 fn events(alloc: Global, list: &[RawEvent], tasks: u32) -> Result<Vec<Event>, JobFault>
-    ensures { Gives (λ v. v.items) result (each (event_of tasks) (map raw_event list.now)) }
+    ensures { Gives (λ v. v.items) result (each (event_in tasks) (map raw_event list.now)) }
 {
     let mut events = Vec::with_capacity(alloc, list.len())?;
     for raw in list {
@@ -266,40 +335,11 @@ fn events(alloc: Global, list: &[RawEvent], tasks: u32) -> Result<Vec<Event>, Jo
     Ok(events)
 }
 
-fn include(alloc: Global, raw: &RawInclude) -> Result<Include, AllocError>
-    ensures { IfOk result (λ i. i ≡ raw_include raw.now) }
-{
-    Ok(Include {
-        name: Text::copy_of(alloc, raw.name.as_bytes())?,
-        text: Text::copy_of(alloc, raw.text.as_bytes())?,
-    })
-}
-
-fn includes(alloc: Global, list: &[RawInclude]) -> Result<Vec<Include>, AllocError>
-    ensures { IfOk result (λ v. v.items ≡ map raw_include list.now) }
-{
-    let mut includes = Vec::with_capacity(alloc, list.len())?;
-    for raw in list {
-        includes.push(include(alloc, raw)?)?;
-    }
-    Ok(includes)
-}
-
-fn policies(alloc: Global, list: &[&str]) -> Result<Vec<Text>, AllocError>
-    ensures { IfOk result (λ v. v.items ≡ map raw_text list.now) }
-{
-    let mut policies = Vec::with_capacity(alloc, list.len())?;
-    for text in list {
-        policies.push(Text::copy_of(alloc, text.as_bytes())?)?;
-    }
-    Ok(policies)
-}
-
 /// The job that stands there.
-#[tactic(auto, unfolding(crate::specs::Meaning::meaning))]
+#[tactic(auto, unfolding(crate::specs::Made::meaning_in))]
 pub fn job_from(alloc: Global, raw: RawJob) -> Result<Job, JobFault>
-    requires { within_limits (written_sizes (raw_job raw)) ≡ true }
-    ensures { Gives (λ j. j) result (meaning (raw_job raw.entry)) }
+    requires { within_limits (made_sizes (raw_job raw)) ≡ true }
+    ensures { Gives (λ j. j) result (meaning_in (raw_job raw)) }
 {
     let list = raw.tasks;
     let rows = list.as_slice();
@@ -307,12 +347,10 @@ pub fn job_from(alloc: Global, raw: RawJob) -> Result<Job, JobFault>
     let texts = raw.policies.as_slice();
     let tasks = tasks(alloc, list, texts.len() as u16)?;
     let events = events(alloc, raw.events.as_slice(), count)?;
-    let includes = includes(alloc, raw.includes.as_slice())?;
-    let policies = policies(alloc, texts)?;
     Ok(Job {
-        policies: Seq::from_vec(policies),
+        policies: Seq::from_vec(raw.policies),
         several: raw.several,
-        includes: Seq::from_vec(includes),
+        includes: Seq::from_vec(raw.includes),
         tasks: Seq::from_vec(tasks),
         states: raw.states as u32,
         capacity: raw.capacity as u32,

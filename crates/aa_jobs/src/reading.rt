@@ -4,8 +4,9 @@ ghost use Rattle.std.specs.Prelude.{◌≡◌, ◌≢◌, IfOk, IfErr, Ok, Err};
 ghost use Rattle.aa_jobs.specs.declared.job_fault.JobFault.{JobFault};
 ghost use Rattle.aa_jobs.specs.Steps.{Gives};
 ghost use Rattle.aa_jobs.specs.Stream.{written_as};
+ghost use Rattle.aa_jobs.specs.Made.{limited_in, made_job, mapped};
 ghost use Rattle.aa_jobs.specs.Raw.{raw_job};
-ghost use Rattle.aa_jobs.specs.Jobs.{written_in, limited_meaning, job_of};
+ghost use Rattle.aa_jobs.specs.Jobs.{written_in, job_of};
 
 use crate::job::Job;
 use crate::job_fault::JobFault;
@@ -23,14 +24,11 @@ const MAX_BYTES: usize = 16_777_216;
 const MAX_DEPTH: usize = 127;
 
 /// What stands in the job that the text is.
-fn raw_in<'t>(
-    alloc: Global,
-    text: &'t str,
-    scratch: &'t mut Scratch,
-) -> Result<RawJob<'t>, JobFault>
-    ensures { Gives raw_job result (written_as text.now) }
+fn raw_in(alloc: Global, text: &str) -> Result<RawJob, JobFault>
+    ensures { Gives raw_job result (mapped made_job (written_as text.now)) }
 {
-    let Ok(mut reader) = Reader::new(text, scratch) else {
+    let mut scratch = Scratch::new(alloc);
+    let Ok(mut reader) = Reader::new(text, &mut scratch) else {
         return Err(JobFault::NoMemory);
     };
     let raw = stream::job(alloc, &mut reader, MAX_DEPTH)?;
@@ -41,22 +39,18 @@ fn raw_in<'t>(
 }
 
 /// What stands in the job that the bytes are.
-fn raw_job<'t>(
-    alloc: Global,
-    bytes: &'t [u8],
-    scratch: &'t mut Scratch,
-) -> Result<RawJob<'t>, JobFault>
-    ensures { Gives raw_job result (written_in bytes.now) }
+fn raw_job(alloc: Global, bytes: &[u8]) -> Result<RawJob, JobFault>
+    ensures { Gives raw_job result (mapped made_job (written_in bytes.now)) }
 {
     match std::str::from_utf8(bytes) {
-        Ok(text) => raw_in(alloc, text, scratch),
+        Ok(text) => raw_in(alloc, text),
         Err(_) => Err(JobFault::NotJson),
     }
 }
 
 /// The job that stands there, if nothing is over its limit.
 fn limited_job(alloc: Global, raw: RawJob) -> Result<Job, JobFault>
-    ensures { Gives (λ j. j) result (limited_meaning (raw_job raw.entry)) }
+    ensures { Gives (λ j. j) result (limited_in (raw_job raw)) }
 {
     if is_within_limits(&raw) {
         job_from(alloc, raw)
@@ -71,8 +65,7 @@ fn read(alloc: Global, bytes: &[u8]) -> Result<Job, JobFault>
     if bytes.len() > MAX_BYTES {
         return Err(JobFault::TooLarge);
     }
-    let mut scratch = Scratch::new(alloc);
-    let raw = raw_job(alloc, bytes, &mut scratch)?;
+    let raw = raw_job(alloc, bytes)?;
     limited_job(alloc, raw)
 }
 

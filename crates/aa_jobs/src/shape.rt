@@ -7,15 +7,19 @@ ghost use Rattle.serde_json.specs.Data.{object};
 ghost use Rattle.serde_json.specs.Find.{get};
 ghost use Rattle.aa_jobs.specs.declared.job_fault.JobFault.TheVariants.{BadShape};
 ghost use Rattle.aa_jobs.specs.Steps.{Gives, only_if, each};
-ghost use Rattle.aa_jobs.specs.Shape.{keys_of, is_key, has_only, text_in, number_in, list_in, text_at, number_from, has, pair_shape, event_shape, include_shape, events_from, includes_in, includes_from, policies_from};
+ghost use Rattle.aa_jobs.specs.Shape.{keys_of, is_key, has_only, text_in, number_in, list_in, text_at, number_from, has, pair_shape, include_shape, includes_in, includes_from, policies_from};
 ghost use Rattle.aa_jobs.specs.Parts.{job_with, raw_run, raw_texts, run_with, task_with, texts_shape};
-ghost use Rattle.aa_jobs.specs.Written.{WrittenItem, WrittenTask};
-ghost use Rattle.aa_jobs.specs.Raw.{raw_text, raw_item, raw_task, raw_event, raw_include, raw_job};
+ghost use Rattle.aa_jobs.specs.Made.{MadeItems, MadeTask, if_known, made_event, made_event_shape, made_events_from, mapped};
+ghost use Rattle.aa_jobs.specs.Meaning.{event_name};
+ghost use Rattle.aa_jobs.specs.Raw.{raw_text, raw_items, raw_task, raw_event, raw_job};
 ghost use Rattle.aa_jobs.specs.Trees.{tree_data, object_data, entry_data};
 
+use crate::job::EventName;
 use crate::job_fault::JobFault;
-use crate::raw::{RawEvent, RawInclude, RawItem, RawJob, RawRun, RawTask, RawTexts};
+use crate::raw::{RawEvent, RawItems, RawJob, RawRun, RawTask, RawTexts};
 use crate::tree::{self, Member, Tree};
+use aa_base::Text;
+use aa_words::Include;
 use std::alloc::Global;
 use std::collections::BTreeMap;
 
@@ -143,16 +147,18 @@ fn has_key(members: &[Member], key: &str) -> bool
 
 /// A task whose items are read by themselves.
 #[tactic(auto, unfolding(crate::specs::Parts::task_with))]
-pub fn task<'t>(
-    members: &[Member<'t>],
-    items: Result<Vec<RawItem<'t>>, JobFault>,
-) -> Result<RawTask<'t>, JobFault>
-    ensures { (given : Result (List WrittenItem) JobFault) → Gives (λ v. map raw_item v.items) items.entry given → Gives raw_task result (task_with given (object (object_data members.now))) }
+pub fn task(
+    alloc: Global,
+    members: &[Member],
+    items: Result<RawItems, JobFault>,
+) -> Result<RawTask, JobFault>
+    ensures { (given : Result MadeItems JobFault) → Gives raw_items items given → Gives raw_task result (task_with given (object (object_data members.now))) }
 {
     expect(Part::OfTask, members)?;
     let label = text_of(members, "label")?;
     let policy = number_of(members, "policy", DEFAULT_POLICY)?;
     let items = items?;
+    let label = Text::copy_of(alloc, label.as_bytes())?;
     Ok(RawTask {
         label,
         policy,
@@ -160,27 +166,45 @@ pub fn task<'t>(
     })
 }
 
-fn pair<'t>(list: &[Tree<'t>]) -> Result<RawEvent<'t>, JobFault>
-    ensures { Gives raw_event result (pair_shape (map tree_data list.now)) }
+fn event_named(name: &str) -> Option<EventName>
+    ensures { result ≡ if_known (event_name name.now) }
+{
+    if name == "send" {
+        Some(EventName::Send)
+    } else if name == "take" {
+        Some(EventName::Take)
+    } else if name == "finish" {
+        Some(EventName::Finish)
+    } else if name == "collect" {
+        Some(EventName::Collect)
+    } else if name == "shut" {
+        Some(EventName::Shut)
+    } else {
+        None
+    }
+}
+
+fn pair(list: &[Tree]) -> Result<RawEvent, JobFault>
+    ensures { Gives raw_event result (mapped made_event (pair_shape (map tree_data list.now))) }
 {
     match list {
         [task, name] => Ok(RawEvent {
             task: number(task)?,
-            name: text(name)?,
+            name: event_named(text(name)?),
         }),
         _ => Err(JobFault::BadShape),
     }
 }
 
 #[tactic(auto, unfolding(crate::specs::Shape::event_shape))]
-fn event<'t>(value: &Tree<'t>) -> Result<RawEvent<'t>, JobFault>
-    ensures { Gives raw_event result (event_shape (tree_data value.now)) }
+fn event(value: &Tree) -> Result<RawEvent, JobFault>
+    ensures { Gives raw_event result (made_event_shape (tree_data value.now)) }
 {
     pair(list(value)?)
 }
 
-fn events<'t>(alloc: Global, list: &[Tree<'t>]) -> Result<Vec<RawEvent<'t>>, JobFault>
-    ensures { Gives (λ v. map raw_event v.items) result (each event_shape (map tree_data list.now)) }
+fn events(alloc: Global, list: &[Tree]) -> Result<Vec<RawEvent>, JobFault>
+    ensures { Gives (λ v. map raw_event v.items) result (each made_event_shape (map tree_data list.now)) }
 {
     let mut events = Vec::with_capacity(alloc, list.len())?;
     for value in list {
@@ -189,8 +213,8 @@ fn events<'t>(alloc: Global, list: &[Tree<'t>]) -> Result<Vec<RawEvent<'t>>, Job
     Ok(events)
 }
 
-fn events_of<'t>(alloc: Global, members: &[Member<'t>]) -> Result<Vec<RawEvent<'t>>, JobFault>
-    ensures { Gives (λ v. map raw_event v.items) result (events_from (get (codes "events") (object (object_data members.now)))) }
+fn events_of(alloc: Global, members: &[Member]) -> Result<Vec<RawEvent>, JobFault>
+    ensures { Gives (λ v. map raw_event v.items) result (made_events_from (get (codes "events") (object (object_data members.now)))) }
 {
     match tree::member(members, "events") {
         None => Ok(Vec::new(alloc)),
@@ -198,30 +222,39 @@ fn events_of<'t>(alloc: Global, members: &[Member<'t>]) -> Result<Vec<RawEvent<'
     }
 }
 
-#[tactic(auto, unfolding(crate::specs::Shape::include_shape))]
-fn include<'t>(name: &'t str, value: &Tree<'t>) -> Result<RawInclude<'t>, JobFault>
-    ensures { Gives raw_include result (include_shape (name.now, tree_data value.now)) }
+/// A copy of the text that a value has to be.
+fn text_copy(alloc: Global, value: &Tree) -> Result<Text, JobFault>
+    ensures { Gives (λ t. t) result (text_in (tree_data value.now)) }
 {
     let text = text(value)?;
-    Ok(RawInclude { name, text })
+    Ok(Text::copy_of(alloc, text.as_bytes())?)
+}
+
+#[tactic(auto, unfolding(crate::specs::Shape::include_shape))]
+fn include(alloc: Global, name: &str, value: &Tree) -> Result<Include, JobFault>
+    ensures { Gives (λ i. i) result (include_shape (name.now, tree_data value.now)) }
+{
+    let text = text_copy(alloc, value)?;
+    let name = Text::copy_of(alloc, name.as_bytes())?;
+    Ok(Include { name, text })
 }
 
 /// The included texts, in byte order of their names.
 fn includes<'t>(
     alloc: Global,
     found: &BTreeMap<&'t str, &Tree<'t>>,
-) -> Result<Vec<RawInclude<'t>>, JobFault>
-    ensures { Gives (λ v. map raw_include v.items) result (each include_shape (map entry_data found.now.entries)) }
+) -> Result<Vec<Include>, JobFault>
+    ensures { Gives (λ v. v.items) result (each include_shape (map entry_data found.now.entries)) }
 {
     let mut includes = Vec::new(alloc);
     for (name, value) in found {
-        includes.push(include(name, value)?)?;
+        includes.push(include(alloc, name, value)?)?;
     }
     Ok(includes)
 }
 
-fn includes_in<'t>(alloc: Global, value: &Tree<'t>) -> Result<Vec<RawInclude<'t>>, JobFault>
-    ensures { Gives (λ v. map raw_include v.items) result (includes_in (tree_data value.now)) }
+fn includes_in(alloc: Global, value: &Tree) -> Result<Vec<Include>, JobFault>
+    ensures { Gives (λ v. v.items) result (includes_in (tree_data value.now)) }
 {
     match tree::members(value) {
         None => Err(JobFault::BadShape),
@@ -229,8 +262,8 @@ fn includes_in<'t>(alloc: Global, value: &Tree<'t>) -> Result<Vec<RawInclude<'t>
     }
 }
 
-fn includes_of<'t>(alloc: Global, members: &[Member<'t>]) -> Result<Vec<RawInclude<'t>>, JobFault>
-    ensures { Gives (λ v. map raw_include v.items) result (includes_from (get (codes "includes") (object (object_data members.now)))) }
+fn includes_of(alloc: Global, members: &[Member]) -> Result<Vec<Include>, JobFault>
+    ensures { Gives (λ v. v.items) result (includes_from (get (codes "includes") (object (object_data members.now)))) }
 {
     match tree::member(members, "includes") {
         None => Ok(Vec::new(alloc)),
@@ -238,27 +271,27 @@ fn includes_of<'t>(alloc: Global, members: &[Member<'t>]) -> Result<Vec<RawInclu
     }
 }
 
-fn texts<'t>(alloc: Global, list: &[Tree<'t>]) -> Result<Vec<&'t str>, JobFault>
-    ensures { Gives (λ v. map raw_text v.items) result (each text_in (map tree_data list.now)) }
+fn texts(alloc: Global, list: &[Tree]) -> Result<Vec<Text>, JobFault>
+    ensures { Gives (λ v. v.items) result (each text_in (map tree_data list.now)) }
 {
     let mut texts = Vec::with_capacity(alloc, list.len())?;
     for value in list {
-        texts.push(text(value)?)?;
+        texts.push(text_copy(alloc, value)?)?;
     }
     Ok(texts)
 }
 
-fn one_text<'t>(alloc: Global, value: &Tree<'t>) -> Result<Vec<&'t str>, JobFault>
-    ensures { Gives (λ v. map raw_text v.items) result (policies_from (Some (tree_data value.now)) None) }
+fn one_text(alloc: Global, value: &Tree) -> Result<Vec<Text>, JobFault>
+    ensures { Gives (λ v. v.items) result (policies_from (Some (tree_data value.now)) None) }
 {
     let mut texts = Vec::new(alloc);
-    texts.push(text(value)?)?;
+    texts.push(text_copy(alloc, value)?)?;
     Ok(texts)
 }
 
 /// The policies: the one text of `policy`, or the texts of `policies`, and not both.
-fn policies_of<'t>(alloc: Global, members: &[Member<'t>]) -> Result<Vec<&'t str>, JobFault>
-    ensures { Gives (λ v. map raw_text v.items) result (policies_from (get (codes "policy") (object (object_data members.now))) (get (codes "policies") (object (object_data members.now)))) }
+fn policies_of(alloc: Global, members: &[Member]) -> Result<Vec<Text>, JobFault>
+    ensures { Gives (λ v. v.items) result (policies_from (get (codes "policy") (object (object_data members.now))) (get (codes "policies") (object (object_data members.now)))) }
 {
     match (
         tree::member(members, "policy"),
@@ -272,7 +305,7 @@ fn policies_of<'t>(alloc: Global, members: &[Member<'t>]) -> Result<Vec<&'t str>
 
 /// The policies and the included texts.
 #[tactic(auto, unfolding(crate::specs::Parts::texts_shape))]
-fn texts_of<'t>(alloc: Global, members: &[Member<'t>]) -> Result<RawTexts<'t>, JobFault>
+fn texts_of(alloc: Global, members: &[Member]) -> Result<RawTexts, JobFault>
     ensures { Gives raw_texts result (texts_shape (object (object_data members.now))) }
 {
     let policies = policies_of(alloc, members)?;
@@ -282,12 +315,12 @@ fn texts_of<'t>(alloc: Global, members: &[Member<'t>]) -> Result<RawTexts<'t>, J
 
 /// The tasks, which are read by themselves, the numbers and the events.
 #[tactic(auto, unfolding(crate::specs::Parts::run_with))]
-fn run_of<'t>(
+fn run_of(
     alloc: Global,
-    members: &[Member<'t>],
-    tasks: Result<Vec<RawTask<'t>>, JobFault>,
-) -> Result<RawRun<'t>, JobFault>
-    ensures { (given : Result (List WrittenTask) JobFault) → Gives (λ v. map raw_task v.items) tasks.entry given → Gives raw_run result (run_with given (object (object_data members.now))) }
+    members: &[Member],
+    tasks: Result<Vec<RawTask>, JobFault>,
+) -> Result<RawRun, JobFault>
+    ensures { (given : Result (List MadeTask) JobFault) → Gives (λ v. map raw_task v.items) tasks given → Gives raw_run result (run_with given (object (object_data members.now))) }
 {
     let tasks = tasks?;
     let states = number_of(members, "states", DEFAULT_STATES)?;
@@ -303,12 +336,12 @@ fn run_of<'t>(
 
 /// All that stands in a job whose tasks are read by themselves.
 #[tactic(auto, unfolding(crate::specs::Parts::job_with))]
-pub fn job<'t>(
+pub fn job(
     alloc: Global,
-    members: &[Member<'t>],
-    tasks: Result<Vec<RawTask<'t>>, JobFault>,
-) -> Result<RawJob<'t>, JobFault>
-    ensures { (given : Result (List WrittenTask) JobFault) → Gives (λ v. map raw_task v.items) tasks.entry given → Gives raw_job result (job_with given (object (object_data members.now))) }
+    members: &[Member],
+    tasks: Result<Vec<RawTask>, JobFault>,
+) -> Result<RawJob, JobFault>
+    ensures { (given : Result (List MadeTask) JobFault) → Gives (λ v. map raw_task v.items) tasks given → Gives raw_job result (job_with given (object (object_data members.now))) }
 {
     expect(Part::Whole, members)?;
     let several = has_key(members, "policies");

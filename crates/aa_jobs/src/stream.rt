@@ -8,18 +8,19 @@ ghost use Rattle.serde_json.specs.Read.{converted, of_json, of_items, of_members
 ghost use Rattle.aa_jobs.specs.declared.job_fault.JobFault.{JobFault};
 ghost use Rattle.aa_jobs.specs.declared.job_fault.JobFault.TheVariants.{NotJson};
 ghost use Rattle.aa_jobs.specs.Items.{look, value_data};
-ghost use Rattle.aa_jobs.specs.Raw.{raw_item, raw_job, raw_task};
-ghost use Rattle.aa_jobs.specs.Shape.{data_list, item_shape, job_shape, task_shape};
+ghost use Rattle.aa_jobs.specs.Made.{MadeTask, made_items, made_items_shape, made_job_shape, made_task_shape, made_tasks_shape, mapped};
+ghost use Rattle.aa_jobs.specs.Raw.{raw_item, raw_items, raw_job, raw_task};
+ghost use Rattle.aa_jobs.specs.Shape.{data_list, item_shape};
 ghost use Rattle.aa_jobs.specs.Steps.{Gives, each, needed};
-ghost use Rattle.aa_jobs.specs.Stream.{Reads, ReadsApart, followed, items_shape, tasks_shape};
+ghost use Rattle.aa_jobs.specs.Stream.{Reads, ReadsApart, followed};
 ghost use Rattle.aa_jobs.specs.Trees.{object_data};
-ghost use Rattle.aa_jobs.specs.Written.{WrittenItem, WrittenTask};
+ghost use Rattle.aa_jobs.specs.Written.{WrittenItem};
 
 use crate::job_fault::JobFault;
 use crate::keyed::{self, ItemMember, ItemValue};
-use crate::raw::{RawItem, RawJob, RawTask};
-use crate::shape;
+use crate::raw::{RawItem, RawItems, RawJob, RawTask};
 use crate::tree::{self, Member, Tree};
+use crate::{meaning, shape};
 use json::{Reader, Token, Value};
 use std::alloc::Global;
 
@@ -169,43 +170,41 @@ fn item<'t>(
     }
 }
 
-fn with_item<'t>(
-    items: Shaped<Vec<RawItem<'t>>>,
-    item: Shaped<RawItem<'t>>,
-) -> Shaped<Vec<RawItem<'t>>>
-    ensures { (front : Result (List WrittenItem) JobFault) (last : Result WrittenItem JobFault) → Gives (λ v. map raw_item v.items) items.entry front → Gives raw_item item.entry last → Gives (λ v. map raw_item v.items) result (followed front last) }
+/// The items with what one more asks.
+fn with_item(alloc: Global, items: Shaped<RawItems>, item: Shaped<RawItem>) -> Shaped<RawItems>
+    ensures { (front : Result (List WrittenItem) JobFault) (last : Result WrittenItem JobFault) → Gives raw_items items (mapped made_items front) → Gives raw_item item.entry last → Gives raw_items result (mapped made_items (followed front last)) }
 {
     let mut items = items?;
-    items.push(item?)?;
+    let item = item?;
+    meaning::add_item(alloc, &mut items, &item)?;
     Ok(items)
 }
 
 /// The rest of an array of items.
-fn rest_of_items<'t>(
+fn rest_of_items(
     alloc: Global,
-    reader: &mut Reader<'t>,
+    reader: &mut Reader,
     depth: usize,
-) -> Result<Shaped<Vec<RawItem<'t>>>, JobFault>
+) -> Result<Shaped<RawItems>, JobFault>
     requires { 1 < depth }
-    ensures { Reads (λ v. map raw_item v.items) result reader.new (parse_map (λ ds. each item_shape (data_list ds)) (converted of_items (items (value depth) (length reader.old) reader.old))) }
+    ensures { Reads raw_items result reader.new (parse_map (λ ds. mapped made_items (each item_shape (data_list ds))) (converted of_items (items (value depth) (length reader.old) reader.old))) }
 {
-    let mut items = Ok(Vec::new(alloc));
+    let mut items = Ok(RawItems {
+        works: Vec::new(alloc),
+        are_good: true,
+    });
     let mut room = Vec::new(alloc);
     'turns: while !reader.take_end_array() {
         let item = item(alloc, reader, depth, &mut room)?;
-        items = with_item(items, item);
+        items = with_item(alloc, items, item);
     }
     Ok(items)
 }
 
 /// The items of a task.
-fn items<'t>(
-    alloc: Global,
-    reader: &mut Reader<'t>,
-    depth: usize,
-) -> Result<Shaped<Vec<RawItem<'t>>>, JobFault>
+fn items(alloc: Global, reader: &mut Reader, depth: usize) -> Result<Shaped<RawItems>, JobFault>
     requires { 2 < depth }
-    ensures { Reads (λ v. map raw_item v.items) result reader.new (parse_map items_shape (converted of_json (value depth reader.old))) }
+    ensures { Reads raw_items result reader.new (parse_map made_items_shape (converted of_json (value depth reader.old))) }
 {
     let token = next_token(reader)?;
     if let Token::BeginArray = token {
@@ -221,9 +220,9 @@ fn rest_of_task<'t>(
     alloc: Global,
     reader: &mut Reader<'t>,
     depth: usize,
-) -> Result<(Vec<Member<'t>>, Shaped<Vec<RawItem<'t>>>), JobFault>
+) -> Result<(Vec<Member<'t>>, Shaped<RawItems>), JobFault>
     requires { 2 < depth }
-    ensures { ReadsApart (λ ms. object_data ms.items) (codes "requests") (λ v. map raw_item v.items) items_shape result reader.new (converted (λ ms. of_members ms no_members) (members (value depth) (length reader.old) reader.old)) }
+    ensures { ReadsApart (λ ms. object_data ms.items) (codes "requests") raw_items made_items_shape result reader.new (converted (λ ms. of_members ms no_members) (members (value depth) (length reader.old) reader.old)) }
 {
     let mut members = Vec::new(alloc);
     let mut requests = Err(JobFault::BadShape);
@@ -239,29 +238,22 @@ fn rest_of_task<'t>(
     Ok((members, requests))
 }
 
-fn task<'t>(
-    alloc: Global,
-    reader: &mut Reader<'t>,
-    depth: usize,
-) -> Result<Shaped<RawTask<'t>>, JobFault>
+fn task(alloc: Global, reader: &mut Reader, depth: usize) -> Result<Shaped<RawTask>, JobFault>
     requires { 3 < depth }
-    ensures { Reads raw_task result reader.new (parse_map task_shape (converted of_json (value depth reader.old))) }
+    ensures { Reads raw_task result reader.new (parse_map made_task_shape (converted of_json (value depth reader.old))) }
 {
     let token = next_token(reader)?;
     if let Token::BeginObject = token {
         let (members, requests) = rest_of_task(alloc, reader, depth - 1)?;
-        Ok(shape::task(members.as_slice(), requests))
+        Ok(shape::task(alloc, members.as_slice(), requests))
     } else {
         pass(alloc, reader, token, depth)?;
         Ok(Err(JobFault::BadShape))
     }
 }
 
-fn with_task<'t>(
-    tasks: Shaped<Vec<RawTask<'t>>>,
-    task: Shaped<RawTask<'t>>,
-) -> Shaped<Vec<RawTask<'t>>>
-    ensures { (front : Result (List WrittenTask) JobFault) (last : Result WrittenTask JobFault) → Gives (λ v. map raw_task v.items) tasks.entry front → Gives raw_task task.entry last → Gives (λ v. map raw_task v.items) result (followed front last) }
+fn with_task(tasks: Shaped<Vec<RawTask>>, task: Shaped<RawTask>) -> Shaped<Vec<RawTask>>
+    ensures { (front : Result (List MadeTask) JobFault) (last : Result MadeTask JobFault) → Gives (λ v. map raw_task v.items) tasks front → Gives raw_task task last → Gives (λ v. map raw_task v.items) result (followed front last) }
 {
     let mut tasks = tasks?;
     tasks.push(task?)?;
@@ -269,13 +261,13 @@ fn with_task<'t>(
 }
 
 /// The rest of an array of tasks.
-fn rest_of_tasks<'t>(
+fn rest_of_tasks(
     alloc: Global,
-    reader: &mut Reader<'t>,
+    reader: &mut Reader,
     depth: usize,
-) -> Result<Shaped<Vec<RawTask<'t>>>, JobFault>
+) -> Result<Shaped<Vec<RawTask>>, JobFault>
     requires { 3 < depth }
-    ensures { Reads (λ v. map raw_task v.items) result reader.new (parse_map (λ ds. each task_shape (data_list ds)) (converted of_items (items (value depth) (length reader.old) reader.old))) }
+    ensures { Reads (λ v. map raw_task v.items) result reader.new (parse_map (λ ds. each made_task_shape (data_list ds)) (converted of_items (items (value depth) (length reader.old) reader.old))) }
 {
     let mut tasks = Ok(Vec::new(alloc));
     'turns: while !reader.take_end_array() {
@@ -286,13 +278,9 @@ fn rest_of_tasks<'t>(
 }
 
 /// The tasks of a job.
-fn tasks<'t>(
-    alloc: Global,
-    reader: &mut Reader<'t>,
-    depth: usize,
-) -> Result<Shaped<Vec<RawTask<'t>>>, JobFault>
+fn tasks(alloc: Global, reader: &mut Reader, depth: usize) -> Result<Shaped<Vec<RawTask>>, JobFault>
     requires { 4 < depth }
-    ensures { Reads (λ v. map raw_task v.items) result reader.new (parse_map tasks_shape (converted of_json (value depth reader.old))) }
+    ensures { Reads (λ v. map raw_task v.items) result reader.new (parse_map made_tasks_shape (converted of_json (value depth reader.old))) }
 {
     let token = next_token(reader)?;
     if let Token::BeginArray = token {
@@ -308,9 +296,9 @@ fn rest_of_job<'t>(
     alloc: Global,
     reader: &mut Reader<'t>,
     depth: usize,
-) -> Result<(Vec<Member<'t>>, Shaped<Vec<RawTask<'t>>>), JobFault>
+) -> Result<(Vec<Member<'t>>, Shaped<Vec<RawTask>>), JobFault>
     requires { 4 < depth }
-    ensures { ReadsApart (λ ms. object_data ms.items) (codes "tasks") (λ v. map raw_task v.items) tasks_shape result reader.new (converted (λ ms. of_members ms no_members) (members (value depth) (length reader.old) reader.old)) }
+    ensures { ReadsApart (λ ms. object_data ms.items) (codes "tasks") (λ v. map raw_task v.items) made_tasks_shape result reader.new (converted (λ ms. of_members ms no_members) (members (value depth) (length reader.old) reader.old)) }
 {
     let mut members = Vec::new(alloc);
     let mut found = Err(JobFault::BadShape);
@@ -327,13 +315,9 @@ fn rest_of_job<'t>(
 }
 
 /// What stands in a job.
-pub fn job<'t>(
-    alloc: Global,
-    reader: &mut Reader<'t>,
-    depth: usize,
-) -> Result<Shaped<RawJob<'t>>, JobFault>
+pub fn job(alloc: Global, reader: &mut Reader, depth: usize) -> Result<Shaped<RawJob>, JobFault>
     requires { 5 < depth }
-    ensures { Reads raw_job result reader.new (parse_map job_shape (converted of_json (value depth reader.old))) }
+    ensures { Reads raw_job result reader.new (parse_map made_job_shape (converted of_json (value depth reader.old))) }
 {
     let token = next_token(reader)?;
     if let Token::BeginObject = token {

@@ -145,6 +145,7 @@ pub fn member<'v, 't>(members: &'v [Member<'t>], key: &str) -> Option<&'v Tree<'
     None
 }
 
+/// The text, where it is one.
 pub fn text<'t>(tree: &Tree<'t>) -> Option<&'t str>
     ensures { option_map (λ s. s.now) result ≡ as_str (tree_data tree.now) }
 {
@@ -161,6 +162,7 @@ pub fn unsigned(tree: &Tree) -> Option<u64>
     }
 }
 
+/// The items, where it is a list.
 pub fn items<'v, 't>(tree: &'v Tree<'t>) -> Option<&'v [Tree<'t>]>
     ensures { option_map (λ s. map tree_data s.now) result ≡ option_map data_list (as_array (tree_data tree.now)) }
 {

@@ -1,6 +1,14 @@
 //! The library `libaamediate`: bytes in, texts out, for programs in any language that calls C.
 //!
-//! Each call takes a buffer for its text and one for the line on a fault. Nothing is kept between two calls.
+//! A job is given to `aamediate_check`, `aamediate_run` or `aamediate_replay`, a question in JSON to `aapolicy_check`,
+//! `aapolicy_ask` or `aapolicy_diff`. Each call takes a buffer for its text and one for the line on a fault, tells in
+//! `Sizes` how many bytes text and line have, and returns a status (`docs/EMBEDDING.md`): 5 where the buffer has no
+//! room for the text. Nothing is kept between two calls. The text is what the command of that name writes for the job
+//! (definition `IsAnswered`) or prints with `--json` of the question (`IsQuestioned`). It is made by `check_bytes`,
+//! `run_bytes` and `replay_bytes` of `aa_engine`, or by `check_question`, `ask_question` and `diff_question` of
+//! `aa_question`; here it is copied into the buffers.
+//!
+//! Shown by tests/embedding.
 #![tactic(auto)]
 
 mod answering;

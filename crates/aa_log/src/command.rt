@@ -28,7 +28,7 @@ pub struct LogOptions<'a> {
     pub choice: Choice<'a>,
     /// Whether the place of each line that is skipped is printed.
     pub wants_skipped: bool,
-    /// The files whose profiles answer now what was asked; none where that isn't settings.
+    /// The files whose profiles answer now what was asked; none where what the log says is printed as it stands.
     pub against: &'a [Vec<u8>],
     /// Whether what stays is printed too.
     pub wants_all: bool,

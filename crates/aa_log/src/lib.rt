@@ -1,4 +1,15 @@
-//! What `log` finds: the requests of logs with how often each comes, what a policy answers them, and how that is printed.
+//! What `log` finds: the requests of logs with how often each comes, what a policy answers them, and how that is
+//! printed.
+//!
+//! `log_files` takes settings, `LogOptions` and where logs lie, and gives what is printed. `read_reports` reads the
+//! logs into a `SaidReport`, in which equal requests are one `Entry` with how often and where first it comes;
+//! `report_printed` prints it. Where files are to answer that now, `push_against` or `push_json_against` prints which
+//! requests their policy answers otherwise than then, with the rules, and counts all. The meaning lies in the
+//! definitions `IsFoundIn` and `IsLogOutput`; the law `requests_tell` says that two requests are counted together only
+//! where they are one. What a line asks is left to `aa_logs` and `aa_messages`, the verdict to `aa_ask`, reports of
+//! parts to `aa_merge`, and skipped files to `aa_against`.
+//!
+//! Shown by tests/policy_files/a_log_against_a_changed_policy.
 #![tactic(auto)]
 
 mod against;

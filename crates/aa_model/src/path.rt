@@ -69,6 +69,7 @@ impl FilePath {
         Ok(FilePath { bytes })
     }
 
+    /// The bytes of the path.
     pub fn as_slice(&self) -> &[u8]
         ensures path { result.now ≡ self.now }
         ensures is_one { is_path result.now ≡ true }

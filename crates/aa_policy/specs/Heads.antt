@@ -102,9 +102,13 @@ IsTitle top ws title rest = ((bare : List WordData) × Keyword (codes "profile")
 
 -- ---- flags
 
--- the flags that are read; the last two have no effect
+-- the flags that have no effect
+abbrev pub idle_flags : List (List ℕ)
+idle_flags = codes "attach_disconnected" ∷ codes "mediate_deleted" ∷ []
+
+-- the flags that are read
 abbrev pub known_flags : List (List ℕ)
-known_flags = codes "complain" ∷ codes "enforce" ∷ codes "audit" ∷ codes "attach_disconnected" ∷ codes "mediate_deleted" ∷ []
+known_flags = codes "complain" ∷ codes "enforce" ∷ codes "audit" ∷ idle_flags
 
 -- what may stand between the parentheses: a flag, or a comma
 abbrev pub is_flag : WordKind → List ℕ → Bool

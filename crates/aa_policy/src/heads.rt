@@ -6,7 +6,7 @@ ghost use Rattle.aa_words.specs.Splits.{WordData, word_data, is_one_of};
 ghost use Rattle.aa_rules.specs.Faults.{is_word_fault, IsPlaceIn};
 ghost use Rattle.aa_rules.specs.Grammar.{StartsAs, LacksAll, is_name_kind, is_path_kind, place_of};
 ghost use Rattle.aa_rules.specs.RuleFaults.{IsFaultBy, naming_fault, is_name};
-ghost use Rattle.aa_policy.specs.Heads.{HeadData, TitleData, AttachmentData, head_data, title_data, attachment_data, Stands, Fits, LacksFitting, OptionalPath, attached, attachment_of, IsNamed, IsPathNamed, IsTitle, known_flags, is_flag, is_the_flag, said_by, flags_with, OpensFlags, IsFlagList, IsFlags, IsOpening, IsHead, goes_on, BeginsPathNamed, BeginsProfile};
+ghost use Rattle.aa_policy.specs.Heads.{HeadData, TitleData, AttachmentData, head_data, title_data, attachment_data, Stands, Fits, LacksFitting, OptionalPath, attached, attachment_of, IsNamed, IsPathNamed, IsTitle, idle_flags, known_flags, is_flag, is_the_flag, said_by, flags_with, OpensFlags, IsFlagList, IsFlags, IsOpening, IsHead, goes_on, BeginsPathNamed, BeginsProfile};
 ghost use Rattle.aa_policy.specs.HeadFaults.{TitleFails, left_out_flags, flag_name_fault, flag_word_fault, flag_fault, contradict, FlagListFails, HeadStops, FlagsFail, OpeningFails, HeadFails};
 ghost use Rattle.aa_rules.specs.Reading.{rest_of};
 
@@ -181,6 +181,13 @@ fn title_of<'s>(
     path_named_of(words, at, top, end)
 }
 
+/// Whether a flag is read, and has no effect (apparmor.d(5), "Profile Head").
+pub fn is_idle_flag(name: &[u8]) -> bool
+    ensures { result ≡ is_one_of idle_flags name.now }
+{
+    name == "attach_disconnected".as_bytes() || name == "mediate_deleted".as_bytes()
+}
+
 /// Whether a flag is read.
 fn is_known_flag(name: &[u8]) -> bool
     ensures { result ≡ is_one_of known_flags name.now }
@@ -188,8 +195,7 @@ fn is_known_flag(name: &[u8]) -> bool
     name == "complain".as_bytes()
         || name == "enforce".as_bytes()
         || name == "audit".as_bytes()
-        || name == "attach_disconnected".as_bytes()
-        || name == "mediate_deleted".as_bytes()
+        || is_idle_flag(name)
 }
 
 /// Whether a word is a flag that is read, or a comma.

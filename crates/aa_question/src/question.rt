@@ -27,6 +27,7 @@ pub enum Member {
 }
 
 impl Member {
+    /// Its name in the text of a question.
     pub fn name(self) -> &'static str
         ensures { result.now ≡ member_name self }
     {

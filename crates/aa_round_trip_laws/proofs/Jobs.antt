@@ -25,9 +25,9 @@ use Rattle.aa_jobs.specs.Steps.{each}
 use Rattle.aa_jobs.specs.Written.{WrittenJob}
 use Rattle.aa_jobs.specs.Shape.{entry_list, data_list, text_in, include_shape, job_shape}
 use Rattle.aa_jobs.specs.Limits.{Sizes, within_limits, texts_fit, policies_fit, lists_fit, numbers_fit, job_sizes}
-use Rattle.aa_jobs.specs.Meaning.{task_of, written_sizes}
+use Rattle.aa_jobs.specs.Meaning.{event_of, meaning, task_of, written_sizes}
 use Rattle.aa_jobs.specs.Jobs.{json_of, job_of}
-use Rattle.aa_jobs.proofs.Kept.{meaning_is}
+use Rattle.aa_jobs.proofs.Kept.{sealed_is}
 use Rattle.aa_text.specs.Again.{ArePlain, HasPlain, settled, settled_items, settled_members}
 use Rattle.aa_round_trip_laws.specs.Jobs.{TasksCanBeMade, put_text, in_order, task_in, IsJobOf, JobsAreRead}
 use Rattle.aa_round_trip_laws.proofs.Regrouped.{of_four, of_five, of_seven, of_eight, with_last}
@@ -240,6 +240,13 @@ some_policies s within =
     let count = and_parts (nat_le 1 (length s.policies)) (nat_le (length s.policies) 16) policies.0 in
     let numbers = and_parts _ _ (and_parts (nat_le 1 s.states && nat_le s.states 1000000 && nat_le 1 s.capacity) (nat_le s.capacity 1024) both.1).0 in
     (leb-true _ _ count.0, leb-true _ _ count.1, leb-true _ _ (and_parts (nat_le 1 s.states) (nat_le s.states 1000000) numbers.0).1)
+
+-- a written job whose tasks and events mean these means the job of them
+meaning_is : (w : WrittenJob) (j : Job) → each (task_of (length w.policies)) w.tasks ≡ Ok j.tasks
+    → each (event_of (length w.tasks)) w.events ≡ Ok j.events → w.policies ≡ j.policies → w.several ≡ j.several → w.includes ≡ j.includes
+    → w.states ≡ j.states → w.capacity ≡ j.capacity → meaning w ≡ Ok j
+unfolding meaning
+meaning_is w j t e p m i s c = rw (t, e, p, m, i, s, c) (sealed_is j)
 
 pub jobs_read : JobsAreRead
 unfolding job_of each

@@ -1,4 +1,14 @@
 //! What `ask` answers where files are skipped: verdicts, and which requests their profiles leave undecided.
+//!
+//! `ask_skipping` takes what `ask_files` of `aa_ask` takes, and asks the policy that `with_read_policy` of `aa_skipped`
+//! makes of the files that aren't refused. Each request is `Answered` by the verdict of that policy where
+//! `files_deciding` finds no skipped file that could change it; else it is a `Doubt` with these files, and so is each
+//! request behind it where all are one task's. The meaning lies in the definitions `answers` and `files_deciding`, and
+//! the law `answers_are_sound` says that a verdict stands whatever profiles the skipped files have below their heads.
+//! Which answers a profile could change is left to `aa_skipping`. Other commands take from here how such files are told
+//! (`all_placed`, `push_undecided`, `push_files_member`).
+//!
+//! Shown by tests/policy_files/ask_is_undecided_behind_a_skipped_move.
 #![tactic(auto)]
 
 mod answered;

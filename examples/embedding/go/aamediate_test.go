@@ -37,7 +37,7 @@ func TestAQuestionIsAnswered(t *testing.T) {
 
 func TestTwoPoliciesAreCompared(t *testing.T) {
 	found, err := PolicyDiff([]byte(`{"old":{"files":[{"name":"a","text":"profile web { /srv/a r, }"}]},"new":{"files":[{"name":"b","text":"profile web { /srv/a rw, }"}]}}`))
-	if err != nil || found.Status != 4 || !strings.Contains(string(found.Text), `"sign":"+","request":"wa:/srv/a"`) {
+	if err != nil || found.Status != 4 || !strings.Contains(string(found.Text), `"sign":"+","request":"w:/srv/a"`) {
 		t.Fatalf("%v, %v", found, err)
 	}
 }

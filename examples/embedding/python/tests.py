@@ -38,7 +38,7 @@ class Calls(unittest.TestCase):
         sides = {it: {"files": [{"name": it, "text": "profile web { /srv/a %s, }" % letters}]} for it, letters in (("old", "r"), ("new", "rw"))}
         found = aamediate.policy_diff(json.dumps(sides).encode())
         self.assertEqual(found.status, 4)
-        self.assertEqual([(it["sign"], it["request"]) for it in json.loads(found.text)["lines"]][:1], [("+", "wa:/srv/a")])
+        self.assertEqual([(it["sign"], it["request"]) for it in json.loads(found.text)["lines"]][:1], [("+", "w:/srv/a")])
         self.assertEqual(aamediate.policy_diff(json.dumps({**sides, "old": sides["new"]}).encode()).status, 0)
 
     def test_what_is_no_question_is_refused(self):

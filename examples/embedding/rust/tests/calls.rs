@@ -46,7 +46,7 @@ fn two_policies_are_compared() {
     let found = policy_diff(question).unwrap();
     let text = String::from_utf8(found.text).unwrap();
     assert_eq!(found.status, 4);
-    assert!(text.starts_with(r#"{"old":["a"],"new":["b"],"gains_alone":false,"lines":[{"profile":"web","sign":"+","request":"wa:/srv/a""#), "{text}");
+    assert!(text.starts_with(r#"{"old":["a"],"new":["b"],"gains_alone":false,"lines":[{"profile":"web","sign":"+","request":"w:/srv/a""#), "{text}");
     let fault = policy_diff(br#"{"old":{"files":[]}}"#).unwrap_err();
     assert_eq!(fault.cause, Cause::NoQuestion);
     assert!(fault.line.contains("understood: old.files"), "{}", fault.line);

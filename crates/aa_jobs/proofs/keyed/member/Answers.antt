@@ -1,4 +1,4 @@
-use Rattle.std.proofs.Common.{◌-◌, true, false, sym, ◌∙◌, arith}
+use Rattle.std.proofs.Common.{true, false, sym, ◌∙◌, arith}
 use Rattle.aa_jobs.specs.Items.{key_name}
 use Rattle.aa_jobs.proofs.Looks.{kept_at}
 use Rattle.aa_jobs.proofs.keyed.member.Goals as goal

@@ -1,4 +1,4 @@
-use Rattle.std.proofs.Common.{◌≡◌, Result, Ok, ap, subst}
+use Rattle.std.proofs.Common.{◌≡◌, Result, Ok, sym, ap, subst, ◌∙◌}
 use Rattle.aa_model.specs.declared.request.Request.{Request}
 use Rattle.aa_jobs.specs.declared.job_fault.JobFault.{JobFault}
 use Rattle.aa_jobs.specs.Meaning.{asked}
@@ -9,7 +9,7 @@ use Rattle.aa_jobs.proofs.meaning.asked.Goals as goal
 pub returns-in-Ok : goal.returns-in-Ok
 returns-in-Ok c = λ given gives.
     let is : given ≡ Ok c.in-Ok.request = subst (λ (r : Result Request JobFault). Gives (λ x. x) r given) c.in-Ok.is gives in
-    ap asked is
+    ap asked is ∙ ap Ok (sym c.kept.ensures)
 
 pub returns-in-Err : goal.returns-in-Err
 returns-in-Err c = λ given gives.

@@ -8,9 +8,10 @@ use Rattle.json.proofs.Grammar.{read_key-shorter}
 use Rattle.serde_json.specs.Data.{Members, no_members, put}
 use Rattle.serde_json.specs.Read.{converted, of_json}
 use Rattle.aa_jobs.specs.declared.job_fault.JobFault.TheVariants.{NotJson}
+use Rattle.aa_jobs.specs.Made.{made_tasks_shape}
 use Rattle.aa_jobs.specs.Raw.{raw_task}
 use Rattle.aa_jobs.specs.Steps.{Gives}
-use Rattle.aa_jobs.specs.Stream.{AgreeBut, Apart, tasks_shape}
+use Rattle.aa_jobs.specs.Stream.{AgreeBut, Apart}
 use Rattle.aa_jobs.specs.Trees.{object_data, tree_data}
 use Rattle.aa_jobs.proofs.Apart.{agree_first, agree_on, shape_kept, shape_last}
 use Rattle.aa_jobs.proofs.Conversion.{key_refused, member_read, member_refused, members_over}
@@ -34,8 +35,9 @@ returns-in_err-found c =
     let p = err_from_is_err_and c.from_residual-in_err-found.result c.from_residual-in_err-found.ensures.1 in
     let s = c.next_key.new.reader in
     let key : read_key l.reader ≡ Some (Some c.in-Some.key.now, s) = needed_is NotJson (read_key l.reader) _ c.in_ok-key.ensures ∙ ap (λ x. Some (option_map (λ b. b.now) x, s)) c.in-Some.is in
-    rw (p.1, p.2) (none_on c.in_err-found.field-0.0 (parse_map tasks_shape (converted of_json (value c.args.depth s))) _
-    (λ none. l.invariant.5 ∙ member_refused (value c.args.depth) l.invariant.2 l.invariant.0 c.in-Some.key.now l.reader s key (unmapped tasks_shape (converted of_json (value c.args.depth s)) none)) c.in_err-found.ensures)
+    rw (p.1, p.2) (none_on c.in_err-found.field-0.0 (parse_map made_tasks_shape (converted of_json (value c.args.depth s))) _
+    (λ none. l.invariant.5 ∙ member_refused (value c.args.depth) l.invariant.2 l.invariant.0 c.in-Some.key.now l.reader s key
+    (unmapped made_tasks_shape (converted of_json (value c.args.depth s)) none)) c.in_err-found.ensures)
 
 pub returns-in_err-value : goal.returns-in_err-value
 returns-in_err-value c =
@@ -54,7 +56,7 @@ turns-preserved-then-eq c =
     let k = c.in-Some.key.now in
     let key : read_key l.reader ≡ Some (Some k, s) = needed_is NotJson (read_key l.reader) _ c.in_ok-key.ensures ∙ ap (λ x. Some (option_map (λ b. b.now) x, s)) c.in-Some.is in
     let r = c.tasks.new.reader in
-    let d = shaped_is (λ v. map raw_task v.items) c.in_ok-found.found tasks_shape (converted of_json (value c.args.depth s)) r c.in_ok-found.ensures in
+    let d = shaped_is (λ v. map raw_task v.items) c.in_ok-found.found made_tasks_shape (converted of_json (value c.args.depth s)) r c.in_ok-found.ensures in
     let same : bytes_eq k (codes "tasks") ≡ true = grind arith in
     let pushed : c.push.new.self.items ≡ l.members.items ++ (c.in-Some.key, Null) ∷ [] = search rules in
     let less = read_key-shorter l.reader (Some k) s key in
@@ -64,7 +66,7 @@ turns-preserved-then-eq c =
       omega (arith, l.invariant.1, less, lesser),
       put k d.0 l.invariant.2,
       subst (λ ms. AgreeBut (codes "tasks") ms (put k d.0 l.invariant.2)) (sym (ap object_data pushed ∙ object_data_push l.members.items (c.in-Some.key, Null))) agree,
-      subst (λ g. Gives (λ v. map raw_task v.items) c.in_ok-found.found g) (sym (shape_last tasks_shape (codes "tasks") k d.0 l.invariant.2 same)) d.2,
+      subst (λ g. Gives (λ v. map raw_task v.items) c.in_ok-found.found g) (sym (shape_last made_tasks_shape (codes "tasks") k d.0 l.invariant.2 same)) d.2,
       l.invariant.5 ∙ member_read (value c.args.depth) l.invariant.2 n k l.reader s r d.0 (omega (arith, l.invariant.1, less)) key d.1,
     )
 
@@ -75,7 +77,7 @@ turns-smaller-then-eq c =
     let k = c.in-Some.key.now in
     let key : read_key l.reader ≡ Some (Some k, s) = needed_is NotJson (read_key l.reader) _ c.in_ok-key.ensures ∙ ap (λ x. Some (option_map (λ b. b.now) x, s)) c.in-Some.is in
     let r = c.tasks.new.reader in
-    let d = shaped_is (λ v. map raw_task v.items) c.in_ok-found.found tasks_shape (converted of_json (value c.args.depth s)) r c.in_ok-found.ensures in
+    let d = shaped_is (λ v. map raw_task v.items) c.in_ok-found.found made_tasks_shape (converted of_json (value c.args.depth s)) r c.in_ok-found.ensures in
     omega (arith, read_key-shorter l.reader (Some k) s key, converted-shorter c.args.depth s r d.0 d.1)
 
 pub turns-preserved : goal.turns-preserved
@@ -97,7 +99,8 @@ turns-preserved c =
       omega (arith, l.invariant.1, less, lesser),
       put k (tree_data v) l.invariant.2,
       subst (λ ms. AgreeBut (codes "tasks") ms (put k (tree_data v) l.invariant.2)) (sym (ap object_data pushed ∙ object_data_push l.members.items (c.in-Some.key, v))) agree,
-      subst (λ g. Gives (λ x. map raw_task x.items) l.found g) (sym (shape_kept tasks_shape (codes "tasks") k (tree_data v) l.invariant.2 other)) l.invariant.4,
+      subst (λ g. Gives (λ x. map raw_task x.items) l.found g)
+          (sym (shape_kept made_tasks_shape (codes "tasks") k (tree_data v) l.invariant.2 other)) l.invariant.4,
       l.invariant.5 ∙ member_read (value c.args.depth) l.invariant.2 n k l.reader s r (tree_data v) (omega (arith, l.invariant.1, less)) key read,
     )
 
@@ -119,4 +122,5 @@ returns c =
     let none : c.in_ok-key.field-0 ≡ None = search rules in
     let key : read_key l.reader ≡ Some (None, s) = needed_is NotJson (read_key l.reader) _ c.in_ok-key.ensures ∙ ap (λ x. Some (option_map (λ b. b.now) x, s)) none in
     let e = l.invariant.5 ∙ members_over (value c.args.depth) l.invariant.2 l.invariant.0 l.reader s l.invariant.1 key in
-    subst (λ (o : Option (Members × List Token)). Apart (λ ms. object_data ms.items) (codes "tasks") (λ v. map raw_task v.items) tasks_shape (l.members, l.found) s o) (sym e) (refl, l.invariant.3, l.invariant.4)
+    subst (λ (o : Option (Members × List Token)). Apart (λ ms. object_data ms.items) (codes "tasks") (λ v. map raw_task v.items) made_tasks_shape
+    (l.members, l.found) s o) (sym e) (refl, l.invariant.3, l.invariant.4)

@@ -4,17 +4,16 @@ use Rattle.json.specs.Json.{after_end_array, items, value}
 use Rattle.json.specs.Token.{Token}
 use Rattle.serde_json.specs.Read.{converted, of_items, of_json}
 use Rattle.aa_jobs.specs.declared.job_fault.JobFault.{JobFault}
+use Rattle.aa_jobs.specs.Made.{MadeTask, made_task_shape}
 use Rattle.aa_jobs.specs.Raw.{raw_task}
-use Rattle.aa_jobs.specs.Shape.{task_shape}
 use Rattle.aa_jobs.specs.Stream.{Shaped, followed}
-use Rattle.aa_jobs.specs.Written.{WrittenTask}
 use Rattle.aa_jobs.proofs.Turns.{converted-shorter, going_done, going_ends, going_first, going_on, none_on, shaped_is, unmapped}
 use Rattle.aa_jobs.proofs.stream.rest_of_tasks.Goals as goal
 
 pub turns-init : goal.turns-init
 turns-init c =
     let all = converted of_items (items (value c.args.depth) (length c.args.reader.now) c.args.reader.now) in
-    (length c.args.reader.now, omega arith, Ok [], ap (λ xs. Ok (map raw_task xs)) (sym c.new.ensures.items), going_first task_shape all)
+    (length c.args.reader.now, omega arith, Ok [], ap (λ xs. Ok (map raw_task xs)) (sym c.new.ensures.items), going_first made_task_shape all)
 
 pub returns-in_err-task : goal.returns-in_err-task
 returns-in_err-task c =
@@ -22,8 +21,8 @@ returns-in_err-task c =
     let p = err_from_is_err_and c.from_residual.result c.from_residual.ensures.1 in
     let more : (after_end_array l.reader ≡ None) × (c.take_end_array.new.self ≡ l.reader) = grind arith in
     rw (p.1, p.2) (none_on c.in_err-task.field-0.0 _ _
-    (λ none. l.invariant.4 ∙ going_ends task_shape c.args.depth l.invariant.0 l.invariant.2 l.reader more.0
-    (rw (← more.1) (unmapped task_shape (converted of_json (value c.args.depth c.take_end_array.new.self)) none))) c.in_err-task.ensures)
+    (λ none. l.invariant.4 ∙ going_ends made_task_shape c.args.depth l.invariant.0 l.invariant.2 l.reader more.0
+    (rw (← more.1) (unmapped made_task_shape (converted of_json (value c.args.depth c.take_end_array.new.self)) none))) c.in_err-task.ensures)
 
 pub turns-preserved : goal.turns-preserved
 turns-preserved c =
@@ -31,14 +30,14 @@ turns-preserved c =
     let n = l.invariant.0 in
     let more : (after_end_array l.reader ≡ None) × (c.take_end_array.new.self ≡ l.reader) = grind arith in
     let r = c.task.new.reader in
-    let s = shaped_is raw_task c.in_ok-task.task task_shape (converted of_json (value c.args.depth c.take_end_array.new.self)) r c.in_ok-task.ensures in
+    let s = shaped_is raw_task c.in_ok-task.task made_task_shape (converted of_json (value c.args.depth c.take_end_array.new.self)) r c.in_ok-task.ensures in
     let read : converted of_json (value c.args.depth l.reader) ≡ Some (s.0, r) = rw (← more.1) s.1 in
     let less = converted-shorter c.args.depth l.reader r s.0 read in (
       n - 1,
       omega (arith, l.invariant.1, less),
-      followed l.invariant.2 (task_shape s.0),
-      c.with_task-tasks.ensures l.invariant.2 (task_shape s.0) l.invariant.3 s.2,
-      l.invariant.4 ∙ going_on task_shape c.args.depth n l.invariant.2 l.reader r s.0 (omega (arith, l.invariant.1, less)) more.0 read,
+      followed l.invariant.2 (made_task_shape s.0),
+      c.with_task-tasks.ensures l.invariant.2 (made_task_shape s.0) l.invariant.3 s.2,
+      l.invariant.4 ∙ going_on made_task_shape c.args.depth n l.invariant.2 l.reader r s.0 (omega (arith, l.invariant.1, less)) more.0 read,
     )
 
 pub turns-smaller : goal.turns-smaller
@@ -46,7 +45,7 @@ turns-smaller c =
     let l = c.turns in
     let more : (after_end_array l.reader ≡ None) × (c.take_end_array.new.self ≡ l.reader) = grind arith in
     let r = c.task.new.reader in
-    let s = shaped_is raw_task c.in_ok-task.task task_shape (converted of_json (value c.args.depth c.take_end_array.new.self)) r c.in_ok-task.ensures in
+    let s = shaped_is raw_task c.in_ok-task.task made_task_shape (converted of_json (value c.args.depth c.take_end_array.new.self)) r c.in_ok-task.ensures in
     let read : converted of_json (value c.args.depth l.reader) ≡ Some (s.0, r) = rw (← more.1) s.1 in
     omega (arith, converted-shorter c.args.depth l.reader r s.0 read)
 
@@ -54,5 +53,5 @@ pub returns : goal.returns
 returns c =
     let l = c.turns in
     let r = c.take_end_array.new.self in
-    let e = l.invariant.4 ∙ going_done task_shape c.args.depth l.invariant.0 l.invariant.2 l.reader r l.invariant.1 (grind arith) in
-    subst (λ (o : Option (Result (List WrittenTask) JobFault × List Token)). Shaped (λ v. map raw_task v.items) l.tasks r o) (sym e) (refl, l.invariant.3)
+    let e = l.invariant.4 ∙ going_done made_task_shape c.args.depth l.invariant.0 l.invariant.2 l.reader r l.invariant.1 (grind arith) in
+    subst (λ (o : Option (Result (List MadeTask) JobFault × List Token)). Shaped (λ v. map raw_task v.items) l.tasks r o) (sym e) (refl, l.invariant.3)

@@ -1,4 +1,4 @@
-use Rattle.std.proofs.Common.{◌≡◌, ◌∷◌, Result, map, sym, ap, subst, ◌∙◌, arith}
+use Rattle.std.proofs.Common.{◌≡◌, ◌∷◌, Result, sym, ap, subst, ◌∙◌, arith}
 use Rattle.std.specs.Prelude.{codes}
 use Rattle.std.proofs.lemmas.Result.{err_from_is_err_and}
 use Rattle.json.specs.Json.{parse_map, value}
@@ -9,12 +9,11 @@ use Rattle.serde_json.specs.Read.{converted, of_json}
 use Rattle.aa_jobs.specs.declared.job_fault.JobFault.{JobFault}
 use Rattle.aa_jobs.specs.declared.job_fault.JobFault.TheVariants.{NotJson}
 use Rattle.aa_jobs.specs.Parts.{task_with}
-use Rattle.aa_jobs.specs.Raw.{raw_item, raw_task}
-use Rattle.aa_jobs.specs.Shape.{task_shape}
+use Rattle.aa_jobs.specs.Made.{MadeTask, made_items_shape, made_task_shape}
+use Rattle.aa_jobs.specs.Raw.{raw_items, raw_task}
 use Rattle.aa_jobs.specs.Steps.{Gives, Refuses, needed}
-use Rattle.aa_jobs.specs.Stream.{items_shape, shape_at}
+use Rattle.aa_jobs.specs.Stream.{shape_at}
 use Rattle.aa_jobs.specs.Trees.{object_data}
-use Rattle.aa_jobs.specs.Written.{WrittenTask}
 use Rattle.aa_jobs.proofs.Apart.{task_is}
 use Rattle.aa_jobs.proofs.Turns.{apart_is, brace_not, no_task, nothing_begins, object_none, object_shaped, passed_none, passed_object}
 use Rattle.aa_jobs.proofs.stream.task.Goals as goal
@@ -23,34 +22,37 @@ pub returns-in_err-token : goal.returns-in_err-token
 returns-in_err-token c =
     let p = err_from_is_err_and c.from_residual.result c.from_residual.ensures.1 in
     rw (p.1, p.2)
-    (subst (λ e. Refuses e (needed NotJson (parse_map task_shape (converted of_json (value c.args.depth c.args.reader.now)))))
-    (sym c.in_err-token.ensures.0) (ap (needed NotJson) (nothing_begins task_shape c.args.depth c.args.reader.now c.in_err-token.ensures.1)))
+    (subst (λ e. Refuses e (needed NotJson (parse_map made_task_shape (converted of_json (value c.args.depth c.args.reader.now)))))
+    (sym c.in_err-token.ensures.0) (ap (needed NotJson) (nothing_begins made_task_shape c.args.depth c.args.reader.now c.in_err-token.ensures.1)))
 
 pub returns-in_err-members : goal.returns-in_err-members
 returns-in_err-members c =
     let p = err_from_is_err_and c.from_residual-in_err-members.result c.from_residual-in_err-members.ensures.1 in
     let mid = c.next_token.new.reader in
     let is : c.args.reader.now ≡ Token.begin_object ∷ mid = c.in_ok-token.ensures ∙ ap (λ t. token_of t ∷ mid) c.in-BeginObject.is in
-    rw (p.1, p.2) (object_none c.in_err-members.field-0.0 task_shape c.args.depth c.args.reader.now mid (omega (arith, c.requires)) is c.in_err-members.ensures)
+    rw (p.1, p.2) (object_none c.in_err-members.field-0.0 made_task_shape c.args.depth c.args.reader.now mid
+    (omega (arith, c.requires)) is c.in_err-members.ensures)
 
 pub returns-in_ok-members : goal.returns-in_ok-members
 returns-in_ok-members c =
     let mid = c.next_token.new.reader in
     let is : c.args.reader.now ≡ Token.begin_object ∷ mid = c.in_ok-token.ensures ∙ ap (λ t. token_of t ∷ mid) c.in-BeginObject.is in
     let members = c.in_ok-members.members in
-    let a = apart_is (λ ms. object_data ms.items) (codes "requests") (λ v. map raw_item v.items) items_shape (members, c.in_ok-members.requests) c.rest_of_task.new.reader _ c.in_ok-members.ensures in
-    let given = shape_at items_shape (codes "requests") a.0 in
+    let a = apart_is (λ ms. object_data ms.items) (codes "requests") raw_items made_items_shape
+    (members, c.in_ok-members.requests) c.rest_of_task.new.reader _ c.in_ok-members.ensures in
+    let given = shape_at made_items_shape (codes "requests") a.0 in
     let made = c.task.ensures given a.3 in
     let same = ap (λ xs. task_with given (object (object_data xs))) c.as_slice.ensures.value ∙ sym (task_is (object_data members.items) a.0 a.2) in
-    object_shaped raw_task c.task.result task_shape c.args.depth c.args.reader.now mid c.rest_of_task.new.reader a.0 (omega (arith, c.requires)) is a.1
-    (subst (λ (g : Result WrittenTask JobFault). Gives raw_task c.task.result g) same made)
+    object_shaped raw_task c.task.result made_task_shape c.args.depth c.args.reader.now mid c.rest_of_task.new.reader a.0 (omega (arith, c.requires)) is a.1
+    (subst (λ (g : Result MadeTask JobFault). Gives raw_task c.task.result g) same made)
 
 pub returns-in_err-pass : goal.returns-in_err-pass
 returns-in_err-pass c =
     let p = err_from_is_err_and c.from_residual-in_err-pass.result c.from_residual-in_err-pass.ensures.1 in
-    rw (p.1, p.2) (passed_none c.in_err-pass.field-0.0 task_shape c.args.depth c.args.reader.now c.next_token.new.reader (token_of c.in_ok-token.token) c.in_ok-token.ensures c.in_err-pass.ensures)
+    rw (p.1, p.2) (passed_none c.in_err-pass.field-0.0 made_task_shape c.args.depth c.args.reader.now c.next_token.new.reader
+    (token_of c.in_ok-token.token) c.in_ok-token.ensures c.in_err-pass.ensures)
 
 pub returns-in_ok-pass : goal.returns-in_ok-pass
 returns-in_ok-pass c =
-    passed_object raw_task task_shape no_task c.args.depth c.args.reader.now c.next_token.new.reader c.pass.new.reader
+    passed_object raw_task made_task_shape no_task c.args.depth c.args.reader.now c.next_token.new.reader c.pass.new.reader
     (token_of c.in_ok-token.token) c.in_ok-token.ensures (brace_not c.in_ok-token.token c.in_default.not-BeginObject) c.in_ok-pass.ensures
