@@ -12,7 +12,7 @@ use Rattle.aa_model.specs.declared.answer.Answer.{Answer}
 use Rattle.aa_compile.specs.Transitions.{named}
 use Rattle.aa_compile.specs.Labels.{label_in, label_named}
 use Rattle.aa_mediate.specs.Reply.{reply}
-use Rattle.aa_notation.specs.Written.{word_text}
+use Rattle.aa_notation.specs.Kinds.{word_text}
 use Rattle.aa_logs.specs.Answers.{answered}
 use Rattle.aa_command.specs.declared.decided.Decided.{Decided}
 use Rattle.aa_skipping.specs.declared.unread.Unread.{Unread}

@@ -12,7 +12,7 @@ use Rattle.aa_model.specs.declared.request.Request.{Request}
 use Rattle.aa_model.specs.declared.request.Request.TheVariants as asks
 use Rattle.aa_compile.specs.Labels.{label_named}
 use Rattle.aa_mediate.specs.Reply.{reply}
-use Rattle.aa_notation.specs.Read.{request_in}
+use Rattle.aa_notation.specs.Kinds.{request_in}
 use Rattle.aa_notation.specs.Refused.{refusal}
 use Rattle.aa_ask.specs.declared.asking.AskFault.{AskFault}
 use Rattle.aa_ask.specs.declared.asking.AskFault.TheVariants.{NoMemory, Refused}

@@ -4,7 +4,6 @@ use Rattle.std.specs.Prelude.{ℕ, ◌≡◌, ◌==◌, ◌+◌, ◌<◌, ◌≤
 use Rattle.std.specs.List.{list_any}
 use Rattle.aa_files.specs.Texts.{texts}
 use Rattle.aa_base.specs.declared.unread.Unread.{Unread}
-use Rattle.aa_files.specs.Files.{Files}
 use Rattle.aa_files.specs.FilesData.{IsMain, IsMainText}
 use Rattle.aa_ask.specs.Told.{Told}
 use Rattle.aa_ask.specs.Shown.{verdict_text}

@@ -10,7 +10,7 @@ use Rattle.aa_model.specs.declared.request.Request.TheVariants as asks
 use Rattle.aa_model.specs.declared.answer.Answer.{Answer}
 use Rattle.aa_compile.specs.Labels.{label_name}
 use Rattle.aa_mediate.specs.Reply.{reply}
-use Rattle.aa_notation.specs.Written.{word_text}
+use Rattle.aa_notation.specs.Kinds.{word_text}
 use Rattle.aa_command.specs.declared.decided.Decided.{Decided}
 use Rattle.aa_ask.specs.declared.verdict.Verdict.{Verdict}
 use Rattle.aa_ask.specs.Verdicts.{is_by_complain}

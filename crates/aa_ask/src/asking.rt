@@ -4,7 +4,7 @@ ghost use Rattle.std.specs.Prelude.{◌≡◌, ◌++◌, codes, map, flat_map, o
 ghost use Rattle.aa_compile.specs.Labels.{label_named};
 ghost use Rattle.std.specs.List.{list_any};
 ghost use Rattle.aa_mediate.specs.Reply.{reply};
-ghost use Rattle.aa_notation.specs.Read.{request_in};
+ghost use Rattle.aa_notation.specs.Kinds.{request_in};
 ghost use Rattle.aa_ask.specs.Told.{told, verdict_on};
 ghost use Rattle.aa_ask.specs.Asked.{said_of, listed_profile, listed_profiles, which_profile, changed_to, name_in_digits, label_called, label_by_name, label_by_program, only_label, opening, no_request, request_of, requests_of, in_sequence, verdicts_on, answers, Gives};
 ghost use Rattle.aa_ask.specs.Words.{texts};

@@ -3,7 +3,7 @@
 ghost use Rattle.std.specs.Prelude.{◌≡◌, map, option_map, OnOk, OnErr, IfOk};
 ghost use Rattle.std.specs.List.{list_any};
 ghost use Rattle.aa_mediate.specs.Reply.{reply};
-ghost use Rattle.aa_notation.specs.Written.{word_text};
+ghost use Rattle.aa_notation.specs.Kinds.{word_text};
 ghost use Rattle.aa_ask.specs.Verdicts.{is_by_complain, IsVerdict};
 ghost use Rattle.aa_ask.specs.Named.{Named, named, lacked};
 ghost use Rattle.aa_ask.specs.Told.{told, asker_of, is_same, label_told, missing, is_allowed, unfound, told_by, told_of, verdict_on};

@@ -2,7 +2,7 @@
 
 ghost use Rattle.std.specs.Prelude.{◌≡◌, ◌++◌, List, map, option_map, IfOk};
 ghost use Rattle.aa_model.specs.declared.request.Request.{Request};
-ghost use Rattle.aa_notation.specs.Written.{word_text};
+ghost use Rattle.aa_notation.specs.Kinds.{word_text};
 ghost use Rattle.aa_ask.specs.Told.{asker_of};
 ghost use Rattle.aa_reachability.specs.Reach.{led_by};
 ghost use Rattle.aa_assert.specs.Passages.{going, as_others, plain, words_by, way_told, way_in};

@@ -1,6 +1,6 @@
--- The keys of an audit line that stand behind its profile, for each operation.
+-- The operation of an audit line, and the keys that stand behind its profile, for each kind of request.
 -- Source: capabilities(7); own.
-use Rattle.std.specs.Prelude.{ℕ, List, [], ◌++◌, codes, decimal, if◌then◌else◌}
+use Rattle.std.specs.Prelude.{ℕ, List, [], ◌++◌, codes, decimal, if◌then◌else◌, Option, Some, None}
 use Rattle.aa_base.specs.Permissions.{only_link, only_exec}
 use Rattle.aa_model.specs.declared.policy.Policy.{Policy}
 use Rattle.aa_base.specs.Tables.{entry, capability_names, family_names, sock_type_names}
@@ -56,6 +56,16 @@ network_keys family kind =
 -- the name that was asked for
 abbrev pub change_keys : List ℕ → List ℕ
 change_keys name = key (codes "target") (value name)
+
+-- how the operation of a request is called; a reload is none
+abbrev pub operation_name : Request → Option (List ℕ)
+operation_name (File r) = Some (codes "file")
+operation_name (Link r) = Some (codes "link")
+operation_name (Exec r) = Some (codes "exec")
+operation_name (Cap n) = Some (codes "capable")
+operation_name (Net family kind) = Some (codes "net")
+operation_name (Change name) = Some (codes "change_profile")
+operation_name (Reload k) = None
 
 -- the keys of a line, by the kind of its request
 abbrev pub keys : List Policy → Request → Answer → Note → List ℕ

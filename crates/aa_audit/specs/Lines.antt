@@ -1,33 +1,22 @@
 -- Audit lines.
 -- Source: own.
-use Rattle.std.specs.Prelude.{ℕ, List, ◌++◌, codes, Option, Some, None, option_map, option_and_then}
+use Rattle.std.specs.Prelude.{ℕ, List, ◌++◌, codes, Option, option_map, option_and_then}
 use Rattle.aa_model.specs.declared.policy.Policy.{Policy}
 use Rattle.aa_model.specs.declared.label.Label.{Label}
 use Rattle.aa_model.specs.declared.request.Request.{Request}
-use Rattle.aa_model.specs.declared.request.Request.TheVariants.{File, Link, Exec, Cap, Net, Change, Reload}
 use Rattle.aa_model.specs.declared.answer.Answer.{Answer}
 use Rattle.aa_model.specs.declared.answer.Note.{Note}
 use Rattle.aa_model.specs.declared.answer.NoteWord.{NoteWord}
 use Rattle.aa_model.specs.declared.answer.NoteWord.TheVariants.{Denied, Allowed, Audit}
 use Rattle.aa_compile.specs.Labels.{label_name}
 use Rattle.aa_base.specs.Values.{quoted, value}
-use Rattle.aa_audit.specs.Keys.{key, keys}
+use Rattle.aa_audit.specs.Keys.{key, operation_name, keys}
 
 -- the word of a note
 abbrev pub word_text : NoteWord → List ℕ
 word_text Denied = codes "DENIED"
 word_text Allowed = codes "ALLOWED"
 word_text Audit = codes "AUDIT"
-
--- how the operation of a request is called; a reload is none
-abbrev pub operation_name : Request → Option (List ℕ)
-operation_name (File r) = Some (codes "file")
-operation_name (Link r) = Some (codes "link")
-operation_name (Exec r) = Some (codes "exec")
-operation_name (Cap n) = Some (codes "capable")
-operation_name (Net family kind) = Some (codes "net")
-operation_name (Change name) = Some (codes "change_profile")
-operation_name (Reload k) = None
 
 -- what was decided, on what operation, for a task with which label
 unfoldable pub head_text : NoteWord → List ℕ → List ℕ → List ℕ

@@ -2,9 +2,9 @@
 
 ghost use Rattle.std.specs.Prelude.{◌≡◌, ◌++◌, [], OnOk, IfOk, is_some, option_map, unwrap_or};
 ghost use Rattle.std.specs.String.{string_bytes};
-ghost use Rattle.aa_audit.specs.Lines.{word_text, operation_name, head_text, note_line, line};
+ghost use Rattle.aa_audit.specs.Lines.{word_text, head_text, note_line, line};
 
-use crate::keys::{push_keys, push_name, push_text};
+use crate::keys::{operation_of, push_keys, push_name, push_text};
 use aa_base::push_quoted;
 use aa_compile::{Compiled, name_of_label};
 use aa_model::{Answer, Label, Note, NoteWord, Request};
@@ -17,20 +17,6 @@ fn text_of_word(word: NoteWord) -> &'static str
         NoteWord::Denied => "DENIED",
         NoteWord::Allowed => "ALLOWED",
         NoteWord::Audit => "AUDIT",
-    }
-}
-
-fn operation_of(request: &Request) -> Option<&'static str>
-    ensures { option_map (λ o. o.now) result ≡ operation_name request.now }
-{
-    match request {
-        Request::File(_) => Some("file"),
-        Request::Link(_) => Some("link"),
-        Request::Exec(_) => Some("exec"),
-        Request::Cap(_) => Some("capable"),
-        Request::Net(_, _) => Some("net"),
-        Request::Change(_) => Some("change_profile"),
-        Request::Reload(_) => None,
     }
 }
 

@@ -1,9 +1,9 @@
-//! The keys of audit lines.
+//! The operations of audit lines and their keys, for each kind of request.
 
-ghost use Rattle.std.specs.Prelude.{◌≡◌, ◌++◌, OnOk, codes, decimal};
+ghost use Rattle.std.specs.Prelude.{◌≡◌, ◌++◌, OnOk, codes, decimal, option_map};
 ghost use Rattle.std.specs.String.{string_bytes};
 ghost use Rattle.aa_base.specs.Values.{quoted, value, mask};
-ghost use Rattle.aa_audit.specs.Keys.{key, denied_key, target_key, file_keys, link_keys, exec_keys, capability_keys, network_keys, change_keys, keys};
+ghost use Rattle.aa_audit.specs.Keys.{key, denied_key, target_key, file_keys, link_keys, exec_keys, capability_keys, network_keys, change_keys, operation_name, keys};
 
 use aa_base::{Cap, Family, Perms, SockType, push_mask, push_quoted, push_value};
 use aa_compile::{Compiled, name_of_label};
@@ -125,6 +125,21 @@ fn push_change(out: &mut String, request: &ChangeRequest) -> Result<(), AllocErr
     ensures { OnOk result (string_bytes out.new ≡ string_bytes out.old ++ change_keys request.now) }
 {
     push_name(out, "target", request.name())
+}
+
+/// How the operation of a request is called; a reload is none.
+pub(crate) fn operation_of(request: &Request) -> Option<&'static str>
+    ensures { option_map (λ o. o.now) result ≡ operation_name request.now }
+{
+    match request {
+        Request::File(_) => Some("file"),
+        Request::Link(_) => Some("link"),
+        Request::Exec(_) => Some("exec"),
+        Request::Cap(_) => Some("capable"),
+        Request::Net(_, _) => Some("net"),
+        Request::Change(_) => Some("change_profile"),
+        Request::Reload(_) => None,
+    }
 }
 
 /// Appends the keys that stand behind the profile. After an error `out` has a part of them, and is to be thrown away.

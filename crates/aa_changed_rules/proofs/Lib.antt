@@ -7,3 +7,4 @@ pub mod Telling
 pub mod News
 pub mod Knowing
 pub mod Ranging
+mod Leading

@@ -4,3 +4,4 @@ pub mod Sameness
 pub mod Changed
 pub mod Matching
 pub mod Attachments
+pub mod Leading

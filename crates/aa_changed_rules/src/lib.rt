@@ -16,8 +16,10 @@ mod attachments;
 mod changed;
 mod codes;
 mod forms;
+mod laws;
 mod matching;
 
 pub use attachments::attached_alone;
 pub use changed::{ChangedRules, changed_rules};
+pub use laws::attachments_are_led_to;
 pub use matching::rules_on;

@@ -12,7 +12,7 @@ use Rattle.aa_page.specs.Escaped.{shown, code_text}
 use Rattle.aa_page.specs.Pages.{page_start, page_end, section_start, section_end, list_start, list_end, paragraph}
 use Rattle.aa_page.specs.Lines.{line_start, line_end, rule_line}
 use Rattle.aa_files.specs.Texts.{texts}
-use Rattle.aa_notation.specs.Written.{word_text}
+use Rattle.aa_notation.specs.Kinds.{word_text}
 use Rattle.aa_passed_over.specs.declared.apart.Side.{Side}
 use Rattle.aa_passed_over.specs.declared.apart.Side.TheVariants.{Old, New}
 use Rattle.aa_passed_over.specs.Apart.{ApartRule}

@@ -12,7 +12,7 @@ use Rattle.aa_compile.specs.Labels.{label_name}
 use Rattle.aa_compile.specs.Said.{perms_of, minus}
 use Rattle.aa_text.specs.Visible.{all_visible}
 use Rattle.aa_rule_text.specs.RuleTexts.{shortened}
-use Rattle.aa_notation.specs.Written.{word_text}
+use Rattle.aa_notation.specs.Kinds.{word_text}
 use Rattle.aa_passed_over.specs.declared.apart.Side.{Side}
 use Rattle.aa_passed_over.specs.declared.apart.Side.TheVariants.{Old, New}
 use Rattle.aa_passed_over.specs.Apart.{ApartRule}

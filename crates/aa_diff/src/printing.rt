@@ -3,7 +3,7 @@
 ghost use Rattle.std.specs.Prelude.{◌≡◌, ◌++◌, codes, Option, Some, None, flat_map, map, option_map, OnOk, IfOk, if◌then◌else◌};
 ghost use Rattle.std.specs.List.{list_any};
 ghost use Rattle.aa_base.specs.Values.{value};
-ghost use Rattle.aa_notation.specs.Written.{word_text};
+ghost use Rattle.aa_notation.specs.Kinds.{word_text};
 ghost use Rattle.aa_diff.specs.declared.finding.Finding.{Finding};
 ghost use Rattle.aa_diff.specs.Printed.{is_owner, shown_letters, asked_by, asked_of, others_text, asked_text, sign_text, more_text, only_text, asked_part, change_part, finding_part, line_start, line_end, line_text, gone_text, name_asked, profile_part, profile_text, profile_if, free_if, is_free, is_behind, heading, side_text, rule_part, passed_over_text, told_text, confined_text, free_text};
 ghost use Rattle.aa_passed_over.specs.Apart.{apart};

@@ -15,8 +15,8 @@ use Rattle.aa_model.specs.declared.answer.Note.{Note}
 use Rattle.aa_compile.specs.Labels.{label_name}
 use Rattle.aa_mediate.specs.Reply.{reply}
 use Rattle.aa_base.specs.Values.{value, mask}
-use Rattle.aa_audit.specs.Keys.{key, denied_key, keys}
-use Rattle.aa_audit.specs.Lines.{head_text, note_line, operation_name}
+use Rattle.aa_audit.specs.Keys.{key, denied_key, keys, operation_name}
+use Rattle.aa_audit.specs.Lines.{head_text, note_line}
 use Rattle.aa_jobs.specs.declared.job.Task.{Task}
 use Rattle.aa_lane.specs.Answers.{answered_from}
 use Rattle.aa_engine.specs.Answers.{Answered, asked, task_label, next_label, answers_by}

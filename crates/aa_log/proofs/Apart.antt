@@ -11,10 +11,8 @@ use Rattle.aa_logs.specs.declared.line.Then.TheVariants as was
 use Rattle.aa_logs.specs.Answers.{then_name}
 use Rattle.aa_base.specs.Hex.{hex_digit, hex_pair, digits_in}
 use Rattle.aa_base.specs.Values.{is_shown, quoted, value}
-use Rattle.aa_notation.specs.Parts.{split_in}
-use Rattle.aa_notation.specs.Written.{word_text}
-use Rattle.aa_notation.specs.Read.{request_in}
-use Rattle.aa_notation.specs.Again.{are_bytes, is_askable}
+use Rattle.aa_notation.specs.Parts.{split_in, are_bytes}
+use Rattle.aa_notation.specs.Kinds.{word_text, request_in, is_askable}
 use Rattle.aa_notation.proofs.Splits.{split_byte}
 use Rattle.aa_base.proofs.Digits.{bytes_back, digit_from_48}
 use Rattle.aa_notation.proofs.Reading.{words_are_read}

@@ -15,7 +15,8 @@ use Rattle.aa_base.specs.Tables.{number_in as number_among, capability_names, fa
 use Rattle.aa_model.specs.Requests.{is_path, is_mask, is_wanted_name}
 use Rattle.aa_model.specs.declared.request.Request.{Request}
 use Rattle.aa_model.specs.declared.request.Request.TheVariants.{File, Link, Exec, Change}
-use Rattle.aa_notation.specs.Again.{are_bytes, is_path_of_bytes, is_askable}
+use Rattle.aa_notation.specs.Parts.{are_bytes, is_path_of_bytes}
+use Rattle.aa_notation.specs.Kinds.{is_askable}
 use Rattle.aa_logs.specs.declared.word.Form.{Form}
 use Rattle.aa_logs.specs.declared.word.Form.TheVariants.{Open, Plain}
 use Rattle.aa_logs.specs.declared.line.Then.{Then}

@@ -2,7 +2,8 @@
 -- Source: own.
 use Rattle.std.specs.Prelude.{ℕ, ◌≡◌, ◌&&◌, List, Bool, true, Some, slice_get}
 use Rattle.std.specs.List.{list_all}
-use Rattle.aa_notation.specs.Again.{are_bytes, is_askable}
+use Rattle.aa_notation.specs.Parts.{are_bytes}
+use Rattle.aa_notation.specs.Kinds.{is_askable}
 use Rattle.aa_logs.specs.declared.chosen.Choice.{Choice}
 use Rattle.aa_logs.specs.LogLines.{LogLine}
 use Rattle.aa_log.specs.Found.{Asked, asked_key, requests_in}

@@ -8,7 +8,7 @@ use Rattle.std.specs.HashMap.{HashMap, get_by}
 use Rattle.std.specs.declared.vec.Vec.{Vec}
 use Rattle.aa_log.specs.Limits.{most_requests}
 use Rattle.aa_model.specs.declared.request.Request.{Request}
-use Rattle.aa_notation.specs.Written.{word_text}
+use Rattle.aa_notation.specs.Kinds.{word_text}
 use Rattle.aa_logs.specs.declared.line.Then.{Then}
 use Rattle.aa_logs.specs.declared.chosen.Choice.{Choice}
 use Rattle.aa_logs.specs.Asked.{Cause, Keyword, Because}

@@ -6,7 +6,7 @@ ghost use Rattle.std.specs.Cmp.Lexicographic.{slice_cmp};
 ghost use Rattle.std.specs.HashMap.{get_by};
 ghost use Rattle.std.specs.Str.{bytes_eq};
 ghost use Rattle.aa_log.specs.Limits.{most_requests};
-ghost use Rattle.aa_notation.specs.Written.{word_text};
+ghost use Rattle.aa_notation.specs.Kinds.{word_text};
 ghost use Rattle.aa_log.specs.declared.logging.Entry.{Entry};
 ghost use Rattle.aa_logs.specs.LogLines.{LogLine, log_line};
 ghost use Rattle.aa_logs.specs.Asked.{cause_of};

@@ -2,7 +2,7 @@
 -- Source: own.
 use Rattle.std.specs.Prelude.{ℕ, List, [], ◌∷◌, ◌++◌, Option, Some, None, option_map}
 use Rattle.aa_model.specs.declared.request.Request.{Request}
-use Rattle.aa_notation.specs.Written.{word_text}
+use Rattle.aa_notation.specs.Kinds.{word_text}
 use Rattle.aa_logs.specs.declared.line.Then.{Then}
 use Rattle.aa_log.specs.Counted.{Counted}
 use Rattle.aa_log.specs.Printed.{key_text}

@@ -12,7 +12,7 @@ use Rattle.aa_logs.specs.declared.line.Then.{Then}
 use Rattle.aa_logs.specs.declared.line.Then.TheVariants.{Denied, Allowed, Granted}
 use Rattle.aa_base.specs.Hex.{digits_in}
 use Rattle.aa_model.specs.declared.request.Request.{Request}
-use Rattle.aa_notation.specs.Read.{request_in}
+use Rattle.aa_notation.specs.Kinds.{request_in}
 use Rattle.aa_log.specs.Counted.{Counted}
 use Rattle.aa_merge.specs.declared.fault.Member.{Member}
 use Rattle.aa_merge.specs.declared.fault.Member.TheVariants as of

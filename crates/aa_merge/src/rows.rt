@@ -4,7 +4,7 @@ ghost use Rattle.std.specs.Prelude.{◌≡◌, ℕ, ◌+◌, ◌<◌, ◌≤◌,
 ghost use Rattle.std.specs.HashMap.{get_by};
 ghost use Rattle.std.specs.Str.{bytes_eq};
 ghost use Rattle.aa_files.specs.Texts.{texts};
-ghost use Rattle.aa_notation.specs.Written.{word_text};
+ghost use Rattle.aa_notation.specs.Kinds.{word_text};
 ghost use Rattle.aa_log.specs.declared.logging.Entry.{Entry};
 ghost use Rattle.aa_log.specs.Counted.{Counted, greatest};
 ghost use Rattle.aa_log.specs.Found.{AddsKey, entry_key};

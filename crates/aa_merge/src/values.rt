@@ -5,7 +5,7 @@ ghost use Rattle.json.specs.Value.{value_view};
 ghost use Rattle.json.specs.Find.{get, as_str, as_number};
 ghost use Rattle.serde_json.specs.Find.{as_u64};
 ghost use Rattle.serde_json.specs.Read.{number_from, number_of};
-ghost use Rattle.aa_notation.specs.Read.{request_in};
+ghost use Rattle.aa_notation.specs.Kinds.{request_in};
 ghost use Rattle.aa_merge.specs.Reading.{bytes_in, list_in, number_in, request_of};
 
 use aa_base::from_hex;

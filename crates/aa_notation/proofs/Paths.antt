@@ -1,5 +1,5 @@
 -- A path as it is written in a word, read back.
-use Rattle.std.proofs.Common.{◌≡◌, ℕ, ◌-◌, ◌/◌, ◌%◌, ◌<◌, Bool, true, false, not, ◌&&◌, ◌==◌, List, []}
+use Rattle.std.proofs.Common.{◌≡◌, ℕ, ◌/◌, ◌%◌, ◌<◌, Bool, true, false, not, ◌&&◌, ◌==◌, List, []}
 use Rattle.std.proofs.Common.{◌∷◌, length, cond, refl, sym, ◌∙◌, ap, arith, codes, flat_map, nat_lt, nat_le, is_some}
 use Rattle.std.proofs.Common.{Option, Some, None, true≢false}
 use Rattle.std.specs.List.{list_all, list_any}
@@ -7,10 +7,9 @@ use Rattle.std.proofs.lemmas.Bool.{and_parts, and_from, agree_below_at, eqb-true
 use Rattle.aa_model.specs.Requests.{begins_with, is_path}
 use Rattle.aa_base.specs.Hex.{hex_digit, hex_pair, digits_in}
 use Rattle.aa_base.proofs.Digits.{bytes_back, digit_from_48}
-use Rattle.aa_notation.specs.Parts.{place_of}
+use Rattle.aa_notation.specs.Parts.{place_of, are_bytes, is_path_of_bytes}
 use Rattle.aa_notation.specs.Written.{is_visible, has_arrow, path_text}
 use Rattle.aa_notation.specs.Read.{hex_in, path_in}
-use Rattle.aa_notation.specs.Again.{are_bytes, is_path_of_bytes}
 use Rattle.aa_notation.proofs.Splits.{not_true, no_arrow}
 
 abbrev pub is_found : Option ℕ → ℕ → Bool

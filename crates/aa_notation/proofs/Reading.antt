@@ -12,10 +12,12 @@ use Rattle.aa_model.specs.declared.request.Request.TheVariants.{File, Link, Exec
 use Rattle.aa_base.specs.Hex.{hex_pair}
 use Rattle.aa_base.specs.Values.{letters}
 use Rattle.aa_base.specs.Tables.{entry}
-use Rattle.aa_notation.specs.Parts.{place_of, behind}
-use Rattle.aa_notation.specs.Written.{is_visible, path_text, file_word, exec_word, link_word, cap_word, net_word}
-use Rattle.aa_notation.specs.Read.{hex_in, path_in, letters_in, file_by, file_in, exec_by, exec_in, link_by, link_in, cap_in, net_by, net_in, change_in, object_by, object_in, or_else, request_in}
-use Rattle.aa_notation.specs.Again.{are_bytes, is_path_of_bytes, WordsAreRead}
+use Rattle.aa_notation.specs.Parts.{place_of, behind, are_bytes, is_path_of_bytes}
+use Rattle.aa_notation.specs.Written.{is_visible, path_text}
+use Rattle.aa_notation.specs.Read.{hex_in, path_in, letters_in, or_else}
+use Rattle.aa_notation.specs.Kinds.{file_word, exec_word, link_word, cap_word, net_word}
+use Rattle.aa_notation.specs.Kinds.{file_by, file_in, exec_by, exec_in, link_by, link_in, cap_in, net_by, net_in, change_in, object_by, object_in, request_in}
+use Rattle.aa_notation.specs.Again.{WordsAreRead}
 use Rattle.aa_notation.proofs.Splits.{not_true, split_byte, split_arrow, not_behind}
 use Rattle.aa_notation.proofs.Paths.{is_found, found_back, hex_back, path_back, arrowless}
 

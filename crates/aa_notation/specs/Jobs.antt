@@ -8,7 +8,8 @@ use Rattle.aa_text.specs.Jsons.{comma_if, json_bytes, key_text}
 use Rattle.aa_logs.specs.declared.task.LogTask.{LogTask}
 use Rattle.aa_notation.specs.declared.job.Include.{Include}
 use Rattle.aa_notation.specs.declared.job.JobPolicy.{JobPolicy}
-use Rattle.aa_notation.specs.Requests.{member, request_text, has_text}
+use Rattle.aa_notation.specs.Requests.{member}
+use Rattle.aa_notation.specs.Kinds.{request_text, has_text}
 
 -- the text of a request that a job can have, a comma before it
 unfoldable pub if_text : Bool → Request → List ℕ

@@ -5,4 +5,5 @@ pub mod Named
 pub mod Refused
 pub mod Written
 pub mod Requests
+pub mod Kinds
 pub mod Jobs

@@ -5,7 +5,8 @@ use Rattle.std.specs.List.{list_any}
 use Rattle.std.specs.Str.{bytes_eq}
 use Rattle.aa_base.specs.Tables.{number_in, capability_names, family_names, sock_type_names}
 use Rattle.aa_notation.specs.Parts.{split_in, behind}
-use Rattle.aa_notation.specs.Read.{letters_in, request_in}
+use Rattle.aa_notation.specs.Read.{letters_in}
+use Rattle.aa_notation.specs.Kinds.{request_in}
 use Rattle.aa_notation.specs.Named.{named}
 
 -- what a path has to be

@@ -3,10 +3,11 @@
 ghost use Rattle.std.specs.Prelude.{◌≡◌, ◌++◌, ◌&&◌, ◌||◌, not, count_by, length, ◌≤◌, false, true, OnOk, IfOk};
 ghost use Rattle.std.specs.List.{list_all, list_any, position};
 ghost use Rattle.std.specs.Str.{is_utf8, bytes_eq};
-ghost use Rattle.aa_notation.specs.Requests.{has_text};
+ghost use Rattle.aa_notation.specs.Kinds.{has_text};
 ghost use Rattle.aa_notation.specs.Jobs.{left_out, if_text, requests_text, has_profile, policy_of, decider_text, task_text, tasks_text, include_text, includes_text, texts_text, policies_text, given_text, asked_text, job_text, is_policy_count, is_job_text};
 
-use crate::request::{has_text, push_first, push_request};
+use crate::kinds::{has_text, push_request};
+use crate::request::push_first;
 use aa_logs::LogTask;
 use aa_model::Request;
 use aa_text::{

@@ -1,12 +1,11 @@
-//! Reads a request from one word.
+//! Parts of a word, as they are read.
 
-ghost use Rattle.std.specs.Prelude.{◌≡◌, option_map, option_and_then};
+ghost use Rattle.std.specs.Prelude.{◌≡◌, option_map};
 ghost use Rattle.std.specs.Str.{bytes_eq};
-ghost use Rattle.aa_notation.specs.Read.{hex_in, path_in, letter_in, letters_in, fault_of, made_of, file_in, exec_in, link_in, cap_in, net_in, change_in, object_by, object_in, request_in, Reads};
+ghost use Rattle.aa_notation.specs.Read.{path_in, letter_in, letters_in, fault_of, made_of, Reads};
 
 use crate::digits::from_hex;
-use crate::split::{behind, split_at};
-use aa_base::{Cap, Family, Perms, SockType};
+use aa_base::Perms;
 use aa_model::{Request, RequestFault};
 use bitflags::Flags;
 use std::alloc::{AllocError, AllocFailed, Global};
@@ -42,7 +41,7 @@ impl<T: Drop> From<AllocFailed<T>> for WordFault {
 }
 
 /// A path: it begins with `/`, else it stands in upper-case hexadecimal digits.
-fn path_of(alloc: Global, text: &[u8]) -> Result<Vec<u8>, WordFault>
+pub(crate) fn path_of(alloc: Global, text: &[u8]) -> Result<Vec<u8>, WordFault>
     ensures { Reads (λ path. path.items) result (path_in text.now) }
 {
     match text {
@@ -90,7 +89,7 @@ fn fault_of(fault: RequestFault) -> WordFault
 }
 
 /// A request that can't be made is none.
-fn made(request: Result<Request, RequestFault>) -> Result<Request, WordFault>
+pub(crate) fn made(request: Result<Request, RequestFault>) -> Result<Request, WordFault>
     ensures { result ≡ made_of request }
 {
     match request {
@@ -99,123 +98,8 @@ fn made(request: Result<Request, RequestFault>) -> Result<Request, WordFault>
     }
 }
 
-fn read_link(alloc: Global, text: &[u8], owned: bool) -> Result<Request, WordFault>
-    ensures { Reads (λ r. r) result (link_in owned text.now) }
-{
-    let Some((link, target)) = split_at(text, "->") else {
-        return Err(WordFault::NoRequest);
-    };
-    let link = path_of(alloc, link)?;
-    let target = path_of(alloc, target)?;
-    made(Request::link(alloc, link.as_slice(), target.as_slice(), owned))
-}
-
-fn read_cap(name: &[u8]) -> Result<Request, WordFault>
-    ensures { Reads (λ r. r) result (cap_in name.now) }
-{
-    match Cap::from_name(name) {
-        Some(cap) => Ok(Request::cap(cap)),
-        None => Err(WordFault::NoRequest),
-    }
-}
-
-fn read_net(text: &[u8]) -> Result<Request, WordFault>
-    ensures { Reads (λ r. r) result (net_in text.now) }
-{
-    let Some((family, kind)) = split_at(text, "/") else {
-        return Err(WordFault::NoRequest);
-    };
-    match (Family::from_name(family), SockType::from_name(kind)) {
-        (Some(family), Some(kind)) => Ok(Request::net(family, kind)),
-        _ => Err(WordFault::NoRequest),
-    }
-}
-
-fn read_change(alloc: Global, name: &[u8]) -> Result<Request, WordFault>
-    ensures { Reads (λ r. r) result (change_in name.now) }
-{
-    made(Request::change(alloc, name))
-}
-
-fn read_hex_change(alloc: Global, text: &[u8]) -> Result<Request, WordFault>
-    ensures { Reads (λ r. r) result (option_and_then change_in (hex_in text.now)) }
-{
-    let name = from_hex(alloc, text)?;
-    read_change(alloc, name.as_slice())
-}
-
-fn read_file(alloc: Global, letters: &[u8], text: &[u8], owned: bool) -> Result<Request, WordFault>
-    ensures { Reads (λ r. r) result (file_in owned letters.now text.now) }
-{
-    let path = path_of(alloc, text)?;
-    let Some(mask) = letters_of(Perms(0), letters) else {
-        return Err(WordFault::NoRequest);
-    };
-    made(Request::file(alloc, path.as_slice(), mask, owned))
-}
-
-fn read_exec(alloc: Global, text: &[u8], owned: bool) -> Result<Request, WordFault>
-    ensures { Reads (λ r. r) result (exec_in owned text.now) }
-{
-    let path = path_of(alloc, text)?;
-    made(Request::exec(alloc, path.as_slice(), owned))
-}
-
-pub(crate) fn is_text(text: &[u8], wanted: &str) -> bool
+pub(crate) fn is_word(text: &[u8], wanted: &str) -> bool
     ensures { result ≡ bytes_eq text.now wanted.now }
 {
     text == wanted.as_bytes()
-}
-
-fn read_by(alloc: Global, letters: &[u8], text: &[u8], owned: bool) -> Result<Request, WordFault>
-    ensures { Reads (λ r. r) result (object_by owned letters.now text.now) }
-{
-    if is_text(letters, "x") {
-        return read_exec(alloc, text, owned);
-    }
-    if is_text(letters, "l") {
-        return read_link(alloc, text, owned);
-    }
-    read_file(alloc, letters, text, owned)
-}
-
-/// A request for a file, behind `owned:` or `other:`.
-fn read_object(alloc: Global, word: &[u8], owned: bool) -> Result<Request, WordFault>
-    ensures { Reads (λ r. r) result (object_in owned word.now) }
-{
-    match split_at(word, ":") {
-        Some((letters, text)) => read_by(alloc, letters, text, owned),
-        None => Err(WordFault::NoRequest),
-    }
-}
-
-/// The request that a word is:
-///
-/// `[owned:|other:]LETTERS:PATH` asks to use a file, each letter of `rwakm` its one permission; `[owned:|other:]x:PATH` to execute it;
-/// `[owned:|other:]l:PATH->PATH` to link the first to the second; `cap:NAME`, `net:FAMILY/TYPE` and `change:NAME` a capability, a
-/// socket and another profile. A path begins with `/`, else it stands in upper-case hexadecimal digits, as the name behind `change=`
-/// does. An object is the task's user's behind `owned:`, another's behind `other:`, and without a front as `owned` says.
-#[tactic(auto, unfolding(crate::specs::Read::request_in))]
-pub fn read_word(alloc: Global, word: &[u8], owned: bool) -> Result<Request, WordFault>
-    ensures { Reads (λ r. r) result (request_in owned word.now) }
-{
-    if let Some(object) = behind(word, "owned:") {
-        return read_object(alloc, object, true);
-    }
-    if let Some(object) = behind(word, "other:") {
-        return read_object(alloc, object, false);
-    }
-    if let Some(name) = behind(word, "cap:") {
-        return read_cap(name);
-    }
-    if let Some(text) = behind(word, "net:") {
-        return read_net(text);
-    }
-    if let Some(name) = behind(word, "change:") {
-        return read_change(alloc, name);
-    }
-    if let Some(text) = behind(word, "change=") {
-        return read_hex_change(alloc, text);
-    }
-    read_object(alloc, word, owned)
 }

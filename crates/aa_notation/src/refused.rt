@@ -6,8 +6,9 @@ ghost use Rattle.aa_notation.specs.Parts.{split_in, behind};
 ghost use Rattle.aa_notation.specs.Read.{letters_in};
 ghost use Rattle.aa_notation.specs.Refused.{about_path, about_letters, about_links, about_words, why_letters, why_parts, why_socket, object_of, why, small, lowered, is_request, meant_one, meant_two, meant_cap, type_of, meant_parts, meant_net, word_of, has_x, without_x, meant_exec, letters_meant, meant_letters, meant_path, meant_object, owner_front, meant, refusal};
 
+use crate::kinds::read_word;
 use crate::named::{capability_named, family_named, sock_type_named};
-use crate::read::{WordFault, is_text, letters_of, read_word};
+use crate::read::{WordFault, is_word, letters_of};
 use crate::split::{behind, split_at};
 use aa_base::{Family, Perms};
 use aa_text::push_text;
@@ -60,10 +61,10 @@ fn is_split(text: &[u8], part: &str) -> bool
 fn why_letters(letters: &[u8], text: &[u8]) -> &'static str
     ensures { result.now ≡ why_letters letters.now text.now }
 {
-    if is_text(letters, "x") {
+    if is_word(letters, "x") {
         return about_path();
     }
-    if is_text(letters, "l") {
+    if is_word(letters, "l") {
         return if is_split(text, "->") {
             about_path()
         } else {
@@ -232,13 +233,13 @@ fn meant_cap(alloc: Global, name: &[u8]) -> Result<Vec<u8>, AllocError>
 fn type_of(name: &[u8]) -> &[u8]
     ensures { result.now ≡ type_of name.now }
 {
-    if is_text(name, "tcp") {
+    if is_word(name, "tcp") {
         return "stream".as_bytes();
     }
-    if is_text(name, "udp") {
+    if is_word(name, "udp") {
         return "dgram".as_bytes();
     }
-    if is_text(name, "icmp") {
+    if is_word(name, "icmp") {
         return "raw".as_bytes();
     }
     name
@@ -324,13 +325,13 @@ fn push_meant_exec(
 fn letters_meant(alloc: Global, letters: &[u8]) -> Result<Vec<u8>, AllocError>
     ensures { IfOk result (λ meant. meant.items ≡ letters_meant letters.now) }
 {
-    if is_text(letters, "read") {
+    if is_word(letters, "read") {
         return Vec::from_slice(alloc, "r".as_bytes());
     }
-    if is_text(letters, "write") {
+    if is_word(letters, "write") {
         return Vec::from_slice(alloc, "w".as_bytes());
     }
-    if is_text(letters, "file") {
+    if is_word(letters, "file") {
         return Vec::from_slice(alloc, "rw".as_bytes());
     }
     lowered(alloc, letters)

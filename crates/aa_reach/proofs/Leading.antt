@@ -14,9 +14,8 @@ use Rattle.aa_machine.specs.Run.{state_after}
 use Rattle.aa_mediate.specs.Reply.{reply}
 use Rattle.aa_base.specs.Tables.{capability_names, family_names, sock_type_names}
 use Rattle.aa_model.specs.Requests.{is_path, is_mask, is_wanted_name}
-use Rattle.aa_notation.specs.Again.{are_bytes, is_path_of_bytes, is_askable}
-use Rattle.aa_notation.specs.Read.{request_in}
-use Rattle.aa_notation.specs.Written.{word_text}
+use Rattle.aa_notation.specs.Parts.{are_bytes, is_path_of_bytes}
+use Rattle.aa_notation.specs.Kinds.{is_askable, request_in, word_text}
 use Rattle.aa_notation.proofs.Reading.{words_are_read}
 use Rattle.aa_ask.specs.Told.{is_same}
 use Rattle.aa_representatives.specs.Askable.{IsAskable}

@@ -7,8 +7,7 @@ use Rattle.aa_model.specs.declared.request.Request.{Request}
 use Rattle.aa_model.specs.declared.request.Request.TheVariants.{Reload}
 use Rattle.aa_machine.specs.Run.{state_after}
 use Rattle.aa_mediate.specs.Reply.{reply}
-use Rattle.aa_notation.specs.Read.{request_in}
-use Rattle.aa_notation.specs.Written.{word_text}
+use Rattle.aa_notation.specs.Kinds.{request_in, word_text}
 use Rattle.aa_representatives.specs.Askable.{IsAskable}
 use Rattle.aa_reachability.specs.Moves.{label_next, label_going}
 use Rattle.aa_reachability.specs.Reach.{led_by}

@@ -4,7 +4,7 @@ ghost use Rattle.std.specs.Prelude.{◌≡◌, ◌++◌, ◌<◌, List, map, opt
 ghost use Rattle.std.specs.List.{list_any, slice_get};
 ghost use Rattle.aa_model.specs.declared.label.Label.{Label};
 ghost use Rattle.aa_model.specs.declared.request.Request.{Request};
-ghost use Rattle.aa_notation.specs.Written.{word_text};
+ghost use Rattle.aa_notation.specs.Kinds.{word_text};
 ghost use Rattle.aa_ask.specs.Told.{is_same};
 ghost use Rattle.aa_reachability.specs.Reach.{HaveWays, way_at};
 ghost use Rattle.aa_reach.specs.Names.{name_of};

@@ -3,7 +3,7 @@ use Rattle.std.proofs.Common.{◌≡◌, ℕ, ◌≤◌, Bool, List, ◌++◌, c
 use Rattle.serde_json.specs.Data.{Data, depth}
 use Rattle.serde_json.specs.Read.{read, max_depth}
 use Rattle.serde_json.specs.Written.{compact_text}
-use Rattle.aa_notation.specs.Requests.{request_text}
+use Rattle.aa_notation.specs.Kinds.{request_text}
 use Rattle.aa_jobs.specs.declared.job_fault.JobFault.TheVariants.{NotJson}
 use Rattle.aa_jobs.specs.Steps.{◌>>=◌, needed}
 use Rattle.aa_jobs.specs.Shape.{item_shape}

@@ -16,7 +16,8 @@ use Rattle.aa_logs.specs.declared.task.LogTask.{LogTask}
 use Rattle.aa_text.specs.Jsons.{comma_if, json_bytes, key_text}
 use Rattle.aa_notation.specs.declared.job.Include.{Include}
 use Rattle.aa_notation.specs.declared.job.JobPolicy.{JobPolicy}
-use Rattle.aa_notation.specs.Requests.{member as member_text, has_text}
+use Rattle.aa_notation.specs.Requests.{member as member_text}
+use Rattle.aa_notation.specs.Kinds.{has_text}
 use Rattle.aa_notation.specs.Jobs.{tasks_text, include_text, includes_text, texts_text, policies_text, given_text, asked_text, job_text}
 use Rattle.aa_words.specs.declared.include.Include as jobs
 use Rattle.aa_jobs.specs.declared.job.Job.{Job}

@@ -21,7 +21,7 @@ use Rattle.aa_logs.specs.Records.{line_in, outcome_by, record_in, record_by, by_
 use Rattle.aa_logs.specs.Tasks.{TaskData, tasks_data, gone_on, takes, with_record, fits}
 use Rattle.aa_logs.specs.declared.task.LogTask.{LogTask}
 use Rattle.aa_notation.specs.declared.job.JobPolicy.{JobPolicy}
-use Rattle.aa_round_trip_laws.specs.Again.{CanBeMade}
+use Rattle.aa_round_trip_laws.specs.Kinds.{CanBeMade}
 use Rattle.aa_round_trip_laws.specs.Jobs.{AllCanBeMade, TasksCanBeMade}
 use Rattle.aa_logs.specs.LogLines.{LogLine}
 use Rattle.aa_messages.specs.Said.{said_in}

@@ -10,7 +10,7 @@ use Rattle.aa_audit.specs.Keys.{key}
 use Rattle.aa_logs.specs.declared.word.Form.TheVariants.{Quoted, Plain}
 use Rattle.aa_logs.specs.Words.{WordData}
 use Rattle.aa_logs.specs.Values.{name_in}
-use Rattle.aa_round_trip_laws.specs.OwnLines.{are_bytes}
+use Rattle.aa_notation.specs.Parts.{are_bytes}
 use Rattle.aa_round_trip_laws.proofs.Fields.{apart, all_by, is_bare, is_unquoted, is_key, Reads, reads_quoted, reads_bare}
 
 -- a name as a field: between quotes where all its bytes show, else in digits

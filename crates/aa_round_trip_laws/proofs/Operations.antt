@@ -22,7 +22,8 @@ use Rattle.aa_logs.specs.Masks.{letters_bits}
 use Rattle.aa_logs.specs.Fields.{field_in, place_of}
 use Rattle.aa_logs.specs.Asked.{Cause, Because, Keyword, keyword_of, by_operation, asked_in, asked_mask, masked_file, owned_in, cap_by, exec_by, link_by, change_by, net_by, socket_by}
 use Rattle.aa_logs.specs.Records.{told_by_word, told_in, word_tells, by_told, with_profile, profile_in, named_profile, holds_part, record_by}
-use Rattle.aa_round_trip_laws.specs.OwnLines.{became, are_bytes, is_own_name, is_path_of_bytes}
+use Rattle.aa_round_trip_laws.specs.OwnLines.{became, is_own_name}
+use Rattle.aa_notation.specs.Parts.{are_bytes, is_path_of_bytes}
 use Rattle.aa_round_trip_laws.proofs.Fields.{word_field, bare_field}
 use Rattle.aa_round_trip_laws.proofs.Names.{named, name_named}
 use Rattle.aa_round_trip_laws.proofs.Parts.{head_words, denied_words, is_bare_text, is_quotable}

@@ -22,7 +22,9 @@ use Rattle.aa_logs.specs.Words.{WordData}
 use Rattle.aa_logs.specs.Fields.{place_of}
 use Rattle.aa_logs.specs.Outcomes.{AsksFor}
 use Rattle.aa_logs.specs.Records.{is_record, record_by, line_in}
-use Rattle.aa_round_trip_laws.specs.OwnLines.{became, unowned, are_bytes, is_own_name, is_path_of_bytes, is_told, OwnLinesAreRead}
+use Rattle.aa_round_trip_laws.specs.OwnLines.{became, is_own_name, OwnLinesAreRead}
+use Rattle.aa_round_trip_laws.specs.Kinds.{unowned, is_told}
+use Rattle.aa_notation.specs.Parts.{are_bytes, is_path_of_bytes}
 use Rattle.aa_round_trip_laws.proofs.Fields.{Stands, key_stands, whole, word_field, bare_field}
 use Rattle.aa_round_trip_laws.proofs.Names.{named}
 use Rattle.aa_round_trip_laws.proofs.Parts.{Part, is_quotable, is_bare_text, part_joined, stands_joined, part_nothing, part_named, part_quoted, part_bare, part_mask, head_words, head_part, denied_words, denied_part, denied_stands}

@@ -10,19 +10,20 @@ use Rattle.json.proofs.Printed.Utf8.{are_ascii, IsUtf8-are_ascii}
 use Rattle.json.specs.Print.{quoted, escape_byte}
 use Rattle.serde_json.specs.Data.{unsigned, Data, boolean, number, string, object, Members, no_members, member, depth, members_depth}
 use Rattle.serde_json.specs.Written.{compact_text, members_text}
-use Rattle.aa_base.specs.Tables.{number_in, capability_names, family_names, sock_type_names}
+use Rattle.aa_base.specs.Tables.{entry, number_in, capability_names, family_names, sock_type_names}
 use Rattle.aa_model.specs.Requests.{is_mask}
 use Rattle.aa_model.specs.declared.request.Request.{Request}
 use Rattle.aa_model.specs.declared.request.Request.TheVariants.{File, Link, Exec, Cap, Net, Change, Reload}
 use Rattle.aa_base.specs.Values.{letters, mask, quoted as between_quotes}
 use Rattle.aa_text.specs.Jsons.{json_text, in_digits, json_bytes, key_text}
-use Rattle.aa_notation.specs.Requests.{member as member_text, entry, owned_end, mask_member, file_text, exec_text, link_text, net_text, single, reload_text, request_text, has_text}
+use Rattle.aa_notation.specs.Requests.{member as member_text, owned_end, mask_member, single}
+use Rattle.aa_notation.specs.Kinds.{file_text, exec_text, link_text, net_text, reload_text, request_text, has_text}
 use Rattle.aa_jobs.specs.declared.job.Work.TheVariants.{Ask}
 use Rattle.aa_jobs.specs.Written.{WrittenItem, file_item, link_item, exec_item, cap_item, net_item, change_item, reload_item}
 use Rattle.aa_jobs.specs.Shape.{item_shape, request_shape, file_shape, link_shape, exec_shape, cap_shape, net_shape, change_shape, reload_shape}
 use Rattle.aa_jobs.specs.Meaning.{is_letter, mask_bits, work_of}
 use Rattle.aa_text.specs.Again.{IsPlain, HasPlain, settled}
-use Rattle.aa_round_trip_laws.specs.Again.{CanBeMade}
+use Rattle.aa_round_trip_laws.specs.Kinds.{CanBeMade}
 use Rattle.aa_round_trip_laws.proofs.Regrouped.{of_four, of_five}
 
 abbrev owned_members : Bool → Members

@@ -14,7 +14,8 @@ use Rattle.aa_model.specs.declared.request.Request.{Request}
 use Rattle.aa_logs.specs.declared.task.LogTask.{LogTask}
 use Rattle.aa_text.specs.Jsons.{comma_if, key_text}
 use Rattle.aa_notation.specs.declared.job.JobPolicy.{JobPolicy}
-use Rattle.aa_notation.specs.Requests.{member as member_text, request_text, has_text}
+use Rattle.aa_notation.specs.Requests.{member as member_text}
+use Rattle.aa_notation.specs.Kinds.{request_text, has_text}
 use Rattle.aa_notation.specs.Jobs.{if_text, requests_text, has_profile, policy_of, number_text, decider_text, task_text, tasks_text}
 use Rattle.aa_jobs.specs.declared.job.Work.TheVariants.{Ask}
 use Rattle.aa_jobs.specs.Steps.{each}

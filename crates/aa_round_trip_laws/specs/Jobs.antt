@@ -8,14 +8,14 @@ use Rattle.aa_model.specs.declared.request.Request.{Request}
 use Rattle.aa_logs.specs.declared.task.LogTask.{LogTask}
 use Rattle.aa_notation.specs.declared.job.Include.{Include}
 use Rattle.aa_notation.specs.declared.job.JobPolicy.{JobPolicy}
-use Rattle.aa_notation.specs.Requests.{has_text}
+use Rattle.aa_notation.specs.Kinds.{has_text}
 use Rattle.aa_notation.specs.Jobs.{policy_of, job_text, is_job_text}
 use Rattle.aa_words.specs.declared.include.Include as jobs
 use Rattle.aa_jobs.specs.declared.job.Work.TheVariants.{Ask}
 use Rattle.aa_jobs.specs.declared.job.Task.{Task}
 use Rattle.aa_jobs.specs.declared.job.Job.{Job}
 use Rattle.aa_jobs.specs.Jobs.{job_of}
-use Rattle.aa_round_trip_laws.specs.Again.{CanBeMade}
+use Rattle.aa_round_trip_laws.specs.Kinds.{CanBeMade}
 
 -- each request of each task can be made, in a job of that many policies
 abbrev pub AllCanBeMade : ℕ → List Request → Type 0

@@ -1,3 +1,4 @@
+pub mod Kinds
 pub mod OwnLines
 pub mod Again
 pub mod Jobs

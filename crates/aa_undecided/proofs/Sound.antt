@@ -11,8 +11,7 @@ use Rattle.aa_model.specs.declared.request.Request.{Request}
 use Rattle.aa_model.specs.declared.answer.Answer.{Answer}
 use Rattle.aa_compile.specs.Transitions.{named}
 use Rattle.aa_mediate.specs.Reply.{reply}
-use Rattle.aa_notation.specs.Read.{request_in}
-use Rattle.aa_notation.specs.Written.{word_text}
+use Rattle.aa_notation.specs.Kinds.{request_in, word_text}
 use Rattle.aa_command.specs.declared.decided.Decided.{Decided}
 use Rattle.aa_skipping.specs.declared.unread.Unread.{Unread}
 use Rattle.aa_skipping.specs.Names.{may_be_unread}

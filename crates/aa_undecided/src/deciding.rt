@@ -3,7 +3,7 @@
 ghost use Rattle.std.specs.Prelude.{◌≡◌, ◌∷◌, ◌++◌, [], map, Some, OnOk, IfOk, if◌then◌else◌};
 ghost use Rattle.aa_mediate.specs.Reply.{reply};
 ghost use Rattle.aa_ask.specs.Told.{verdict_on};
-ghost use Rattle.aa_notation.specs.Written.{word_text};
+ghost use Rattle.aa_notation.specs.Kinds.{word_text};
 ghost use Rattle.aa_undecided.specs.Answers.{Settled, placed, placed_data, placed_all, answered, answer_by, label_by, could_decide, files_among, files_deciding, answer_on, label_after, next_answer, next_label, undecided_by};
 
 use crate::answered::{Answered, Doubt, SkippedAt};

@@ -3,7 +3,7 @@
 ghost use Rattle.std.specs.Prelude.{◌≡◌, ◌++◌, codes, map, filter, option_map, false, IfOk};
 ghost use Rattle.std.specs.List.{list_any};
 ghost use Rattle.std.specs.Option.{option_map_or};
-ghost use Rattle.aa_notation.specs.Read.{request_in};
+ghost use Rattle.aa_notation.specs.Kinds.{request_in};
 ghost use Rattle.aa_skipping.specs.Names.{is_doubtful};
 ghost use Rattle.aa_undecided.specs.Answers.{placed, placed_all, may_be_called, files_naming_in, files_naming, files_attaching, may_hold_one, holders, files_holding, files_opening};
 

@@ -3,7 +3,7 @@ use Rattle.std.proofs.Common.{◌≡◌, ℕ, List, Bool, true, false, true≢fa
 use Rattle.std.specs.Prelude.{◌&&◌, IfOk, IfErr}
 use Rattle.aa_model.specs.declared.request.Request.{Request}
 use Rattle.aa_model.specs.declared.request.Request.TheVariants as asks
-use Rattle.aa_notation.specs.Read.{request_in}
+use Rattle.aa_notation.specs.Kinds.{request_in}
 use Rattle.aa_quantifiers.specs.declared.word.Whose.{Whose}
 use Rattle.aa_quantifiers.specs.declared.word.Word.{Word}
 use Rattle.aa_who.specs.declared.fault.Misread.{Misread}

@@ -9,7 +9,7 @@ use Rattle.aa_model.specs.declared.label.Label.TheVariants.{Confined}
 use Rattle.aa_model.specs.declared.request.Request.{Request}
 use Rattle.aa_unclean_paths.specs.Requests.{does_request_count}
 use Rattle.aa_compile.specs.Labels.{profile_in}
-use Rattle.aa_notation.specs.Written.{word_text}
+use Rattle.aa_notation.specs.Kinds.{word_text}
 use Rattle.aa_command.specs.declared.decided.Decided.{Decided}
 use Rattle.aa_ask.specs.Told.{Told, told, verdict_on}
 use Rattle.aa_quantifiers.specs.declared.word.Word.{Word}

@@ -12,7 +12,7 @@ use Rattle.aa_model.specs.Requests.{begins_with}
 use Rattle.aa_model.specs.declared.request.Request.{Request}
 use Rattle.aa_model.specs.declared.request.Request.TheVariants as asks
 use Rattle.aa_notation.specs.Parts.{behind}
-use Rattle.aa_notation.specs.Read.{request_in}
+use Rattle.aa_notation.specs.Kinds.{request_in}
 use Rattle.aa_notation.specs.Refused.{has_x, without_x, word_of, refusal}
 use Rattle.aa_quantifiers.specs.declared.word.Whose.{Whose}
 use Rattle.aa_quantifiers.specs.declared.word.Whose.TheVariants.{Both, Owner, Others}

@@ -2,7 +2,7 @@
 
 ghost use Rattle.std.specs.Prelude.{◌≡◌, not, option_map, IfOk, IfErr, OnOk};
 ghost use Rattle.aa_model.specs.declared.label.Label.{Label};
-ghost use Rattle.aa_notation.specs.Written.{word_text};
+ghost use Rattle.aa_notation.specs.Kinds.{word_text};
 ghost use Rattle.aa_ask.specs.Told.{verdict_on, told};
 ghost use Rattle.aa_load.specs.UnitPolicy.{limit_of};
 ghost use Rattle.aa_who.specs.Counts.{SaysNoPath};

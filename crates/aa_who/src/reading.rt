@@ -5,7 +5,7 @@ ghost use Rattle.std.specs.List.{list_all, list_any};
 ghost use Rattle.aa_model.specs.Requests.{begins_with};
 ghost use Rattle.aa_model.specs.declared.request.Request.{Request};
 ghost use Rattle.aa_notation.specs.Parts.{behind};
-ghost use Rattle.aa_notation.specs.Read.{request_in};
+ghost use Rattle.aa_notation.specs.Kinds.{request_in};
 ghost use Rattle.aa_notation.specs.Refused.{has_x, without_x, word_of};
 ghost use Rattle.aa_who.specs.Words.{said_of, is_alone, at_colon, whose_in, masks_of, about_words, about_letters, about_links, about_fronts, is_letter, ask_link, front_of, meant, why_letters, why_parts, begins_otherwise, why_files, why_unread, object_in, IsPatternIf, IsFilesOf, IsExecsOf, IsOfObject, IsAlone, IsRead, IsNoRequest, SaysNoPattern, SaysNoObject, SaysUnread, SaysMisread};
 

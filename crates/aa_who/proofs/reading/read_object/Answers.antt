@@ -1,6 +1,6 @@
 use Rattle.std.proofs.Common.{ℕ, List, ◌++◌, codes, false, Option, option_map, subst}
 use Rattle.std.specs.Prelude.{IfErr, option_and_then}
-use Rattle.aa_notation.specs.Read.{request_in}
+use Rattle.aa_notation.specs.Kinds.{request_in}
 use Rattle.aa_who.specs.Words.{SaysNoObject}
 use Rattle.aa_who.proofs.reading.read_object.Goals as goal
 

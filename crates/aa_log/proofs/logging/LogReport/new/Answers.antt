@@ -3,7 +3,7 @@ use Rattle.std.specs.Prelude.{ℕ}
 use Rattle.std.specs.List.{position}
 use Rattle.std.specs.Map.{lookup}
 use Rattle.std.specs.Str.{bytes_eq}
-use Rattle.aa_notation.specs.Written.{word_text}
+use Rattle.aa_notation.specs.Kinds.{word_text}
 use Rattle.aa_log.specs.declared.logging.Entry.{Entry}
 use Rattle.aa_log.specs.Counted.{firsts}
 use Rattle.aa_log.specs.Found.{entry_data, entry_key, skipped_data, requests_in, skipped_in, others_in, left_in}

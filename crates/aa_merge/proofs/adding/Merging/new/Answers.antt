@@ -3,7 +3,7 @@ use Rattle.std.specs.Prelude.{option_map}
 use Rattle.std.specs.Map.{lookup}
 use Rattle.std.specs.List.{position}
 use Rattle.std.specs.Str.{bytes_eq}
-use Rattle.aa_notation.specs.Written.{word_text}
+use Rattle.aa_notation.specs.Kinds.{word_text}
 use Rattle.aa_files.specs.Texts.{texts}
 use Rattle.aa_log.specs.declared.logging.Entry.{Entry}
 use Rattle.aa_log.specs.declared.logging.LogReport.{LogReport}
