@@ -27,7 +27,8 @@ use Rattle.aa_undecided.specs.Answers.{PlacedFile, answer_by, answer_on, files_d
 use Rattle.aa_undecided.specs.Holding.{unreads, IsWhole, Tells, Agrees, AnswersHold}
 use Rattle.aa_undecided.proofs.Sound.{none_such}
 use Rattle.aa_log.specs.Replayed.{now_by, now_at, now_for}
-use Rattle.aa_against.specs.Parted.{files_called, files_by, files_for}
+use Rattle.aa_undecided.specs.Named.{files_holding_in}
+use Rattle.aa_against.specs.Parted.{files_by, files_for}
 use Rattle.aa_against.specs.Holding.{ReplaysHold}
 
 -- the label of a name, be it that of no profile or that of one
@@ -52,7 +53,7 @@ module _ (answers : AnswersHold) (stand : NamesStand) (d : Decided) (skipped : L
   read_sure : is_some (named read.profiles name) ≡ true → is_doubtful read.profiles (together (unreads skipped)) name ≡ false
   read_sure is = ap (λ (b : Bool). not b && may_be_unread (together (unreads skipped)) name) is
 
-  none_sure : files_called skipped name read ≡ [] → is_doubtful read.profiles (together (unreads skipped)) name ≡ false
+  none_sure : files_holding_in skipped name read ≡ [] → is_doubtful read.profiles (together (unreads skipped)) name ≡ false
   none_sure none = doubtful_each read.profiles (unreads skipped) name ∙ none_such (λ (u : Unread). is_doubtful read.profiles u name) skipped none
 
   -- an answer at a label that the files that are read have

@@ -1,18 +1,17 @@
 -- Requests of logs that are decided where files are skipped, and requests that these could decide otherwise.
 -- Source: own.
-use Rattle.std.specs.Prelude.{ℕ, List, [], ◌∷◌, filter, map, flat_map, Bool, Option, Some, None}
+use Rattle.std.specs.Prelude.{ℕ, List, [], ◌∷◌, flat_map, Option, Some, None}
 use Rattle.std.specs.Option.{option_map_or}
 use Rattle.std.specs.List.{slice_get}
 use Rattle.aa_model.specs.declared.policy.Policy.{Policy}
-use Rattle.aa_model.specs.declared.policy.Profile.{Profile}
 use Rattle.aa_model.specs.declared.label.Label.{Label}
 use Rattle.aa_model.specs.declared.request.Request.{Request}
 use Rattle.aa_compile.specs.Labels.{label_named}
 use Rattle.aa_command.specs.declared.decided.Decided.{Decided}
-use Rattle.aa_skipping.specs.Names.{is_doubtful}
 use Rattle.aa_skipped.specs.declared.skipped.Skipped.{Skipped}
 use Rattle.aa_log.specs.declared.logging.Entry.{Entry}
-use Rattle.aa_undecided.specs.Answers.{PlacedFile, placed, placed_all, files_deciding}
+use Rattle.aa_undecided.specs.Answers.{PlacedFile, placed_all, files_deciding}
+use Rattle.aa_undecided.specs.Named.{files_holding_in}
 use Rattle.aa_against.specs.declared.parting.Open.{Open}
 
 -- a request that is undecided, with the skipped files that could decide it
@@ -24,17 +23,9 @@ pub record OpenData : Type 0 where
 abbrev pub open_data : Open → OpenData
 open_data o = record { entry = o.entry.now; files = placed_all o.files.items }
 
--- a profile of the file may have that name, and none that is read has it
-abbrev pub may_have : List Profile → List ℕ → Skipped → Bool
-may_have profiles name k = is_doubtful profiles k.unread name
-
--- the files that may have the profile of that name
-abbrev pub files_called : List Skipped → List ℕ → Policy → List PlacedFile
-files_called skipped name policy = map placed (filter (may_have policy.profiles name) skipped)
-
 -- the files that could decide what is asked at a profile: those that may have it, where it isn't read, else those that could change the answer
 abbrev pub files_by : List Policy → List Skipped → List ℕ → Request → Option Label → List PlacedFile
-files_by policies skipped name request None = option_map_or (files_called skipped name) (slice_get policies 0) []
+files_by policies skipped name request None = option_map_or (files_holding_in skipped name) (slice_get policies 0) []
 files_by policies skipped name request (Some label) = files_deciding policies skipped label request
 
 -- those that could decide a request of logs

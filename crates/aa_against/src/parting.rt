@@ -3,14 +3,13 @@
 ghost use Rattle.std.specs.Prelude.{◌≡◌, ◌++◌, map, IfOk, OnOk};
 ghost use Rattle.aa_undecided.specs.Answers.{placed_all};
 ghost use Rattle.aa_log.specs.declared.logging.Entry.{Entry};
-ghost use Rattle.aa_against.specs.Parted.{open_data, files_called, files_for, decided_if, open_if, decided_among, open_among};
+ghost use Rattle.aa_against.specs.Parted.{open_data, files_for, decided_if, open_if, decided_among, open_among};
 
 use aa_command::Decided;
-use aa_compile::{Compiled, label_of};
+use aa_compile::label_of;
 use aa_log::Entry;
 use aa_skipped::Skipped;
-use aa_skipping::name_is_doubtful;
-use aa_undecided::{SkippedAt, files_deciding, push_if};
+use aa_undecided::{SkippedAt, files_deciding, files_holding_in};
 use std::alloc::{AllocError, Global};
 
 /// A request of logs that is undecided, with the skipped files that could decide it.
@@ -25,22 +24,6 @@ pub(crate) struct Open<'a> {
 pub(crate) struct Parted<'a> {
     pub decided: Vec<&'a Entry>,
     pub opens: Vec<Open<'a>>,
-}
-
-fn files_called(
-    alloc: Global,
-    skipped: &[Skipped],
-    name: &[u8],
-    compiled: &Compiled,
-) -> Result<Vec<SkippedAt>, AllocError>
-    ensures { IfOk result (λ files. placed_all files.items ≡ files_called skipped.now name.now compiled.now) }
-{
-    let mut files = Vec::new(alloc);
-    for file in skipped {
-        let may = name_is_doubtful(compiled, &file.unread, name);
-        push_if(alloc, &mut files, may, file)?;
-    }
-    Ok(files)
 }
 
 /// The skipped files that could decide a request of logs.
@@ -58,7 +41,7 @@ fn files_for(
         return files_deciding(alloc, decided.policies, skipped, label, &entry.request);
     }
     match decided.policies.get(0) {
-        Some(compiled) => files_called(alloc, skipped, name, compiled),
+        Some(compiled) => files_holding_in(alloc, skipped, name, compiled),
         None => Ok(Vec::new(alloc)),
     }
 }

@@ -5,6 +5,7 @@ pub mod Told
 pub mod Shown
 pub mod Json
 pub mod Asked
+pub mod Wildcards
 pub mod Naming
 pub mod Words
 pub mod Refused

@@ -1,23 +1,16 @@
 -- The profiles that a text names.
 -- Source: own.
-use Rattle.std.specs.Prelude.{ℕ, zero, suc, ◌==◌, List, [], ◌∷◌, ◌++◌, map, length, if◌then◌else◌, option_and_then}
-use Rattle.std.specs.List.{slice_get}
+use Rattle.std.specs.Prelude.{ℕ, zero, suc, ◌==◌, List, [], ◌∷◌, ◌++◌, map, if◌then◌else◌, option_and_then}
 use Rattle.std.specs.Option.{option_map_or}
-use Rattle.aa_pattern.specs.declared.item.Item.{Item, Byte, Deep}
+use Rattle.aa_pattern.specs.declared.item.Item.{Item}
 use Rattle.aa_pattern.specs.Matching.{is_match}
 use Rattle.aa_model.specs.declared.policy.Policy.{Policy}
 use Rattle.aa_model.specs.declared.label.Label.{Label}
 use Rattle.aa_model.specs.declared.label.Label.TheVariants.{Confined}
 use Rattle.aa_compile.specs.Labels.{label_name, label_named}
 use Rattle.aa_ask.specs.Asked.{name_in_digits}
-
--- how many profiles there are
-abbrev pub count_of : List Policy → ℕ
-count_of policies = option_map_or (λ (p : Policy). length p.profiles) (slice_get policies 0) 0
-
--- in the text of a name * stands for any bytes, each other byte for itself
-abbrev pub name_item : ℕ → Item
-name_item b = if b == 42 then Deep else Byte b
+use Rattle.aa_command.specs.Counts.{count_of}
+use Rattle.aa_ask.specs.Wildcards.{name_item}
 
 -- the label of profile n, where its full name is matched
 abbrev pub label_if : List Policy → List Item → ℕ → List Label

@@ -49,6 +49,11 @@ is_same (Confined j m) (Confined k n) = j == k && m == n
 is_same (Unconfined j) (Confined k n) = false
 is_same (Confined j m) (Unconfined k) = false
 
+-- a task with that label is confined
+abbrev pub is_confined : Label → Bool
+is_confined (Unconfined k) = false
+is_confined (Confined k n) = true
+
 -- how the label after is called, where it is another than before
 abbrev pub label_told : List Policy → Label → Label → Option (List ℕ)
 label_told policies before after = if is_same before after then None else Some (label_name policies after)

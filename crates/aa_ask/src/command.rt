@@ -5,7 +5,7 @@ ghost use Rattle.aa_files.specs.Texts.{texts};
 ghost use Rattle.aa_ask.specs.Told.{told};
 ghost use Rattle.aa_ask.specs.Asked.{answers};
 ghost use Rattle.aa_command.specs.Setting.{setting_of};
-ghost use Rattle.aa_command.specs.Printed.{printed, faults_alone};
+ghost use Rattle.aa_command.specs.Printed.{printed};
 ghost use Rattle.aa_ask.specs.Command.{verdicts_text, is_one_denied, ask_printed, words_answered, asked_of, IsAsked, IsAskedBehind, IsAskedFrom, IsAskOutput};
 
 use crate::asking::{AskFault, Manner, ask, is_one_denied};
@@ -15,7 +15,7 @@ use crate::shown::push_verdicts;
 use crate::unattached::opening_warning;
 use crate::verdict::Verdict;
 use crate::words::{MAX_WORDS, push_words};
-use aa_command::{Decided, Output, Settings, Use, refused, with_policy};
+use aa_command::{Decided, Output, Settings, Use, refused, unanswered, with_policy};
 use aa_files::{Tree, main_text};
 use aa_text::NoMemory;
 use std::alloc::{AllocError, Global};
@@ -71,16 +71,6 @@ fn answered(
     output.faults = warning;
     output.status = status_of(verdicts);
     Ok(output)
-}
-
-/// Says a line in place of the answers.
-fn unanswered(alloc: Global, line: Vec<u8>) -> Output
-    ensures { printed result ≡ faults_alone line.items 1 }
-{
-    let mut output = Output::new(alloc);
-    output.faults = line;
-    output.status = 1;
-    output
 }
 
 fn answer_words(

@@ -210,8 +210,8 @@ fn push_json_unfound(out: &mut Vec<u8>, what: Option<&'static str>) -> Result<()
     push_text(out, "}")
 }
 
-/// Opens the object, and appends the request as its first member.
-fn push_request(out: &mut Vec<u8>, alloc: Global, word: &[u8]) -> Result<(), AllocError>
+/// Opens a JSON object, and appends a request's word as its first member.
+pub fn push_request(out: &mut Vec<u8>, alloc: Global, word: &[u8]) -> Result<(), AllocError>
     ensures { OnOk result (out.new.items ≡ out.old.items ++ (codes "{" ++ (key_text (codes "request") ++ json_bytes word.now))) }
 {
     push_text(out, "{")?;

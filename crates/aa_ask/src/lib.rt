@@ -22,6 +22,7 @@ mod refused;
 mod shown;
 mod unattached;
 mod verdict;
+mod wildcards;
 mod words;
 
 pub use asking::{
@@ -29,11 +30,14 @@ pub use asking::{
 };
 pub use command::{AskOptions, ask_files};
 pub use explained::{DeciderLine, Lack, unit_of};
-pub use json::push_json_verdicts;
-pub use naming::{count_of, profiles_named};
+pub use json::{push_json_verdicts, push_request};
+pub use naming::profiles_named;
 pub use reason_laws::reasons_tell_answers;
 pub use refused::{many_refused, words_refused};
 pub use shown::{push_behind_space, push_reasons, push_verdict, push_verdicts};
 pub use unattached::opening_warning;
-pub use verdict::{Verdict, decide, is_same};
+pub use verdict::{Verdict, asker_of, decide, is_confined, is_same, missing};
+pub use wildcards::{
+    begins_in_digits, is_in_digits, may_begin, may_stand_for, name_pattern, stands_for,
+};
 pub use words::{MAX_WORDS, push_words};

@@ -1,44 +1,16 @@
 //! The profiles that a text names.
 
-ghost use Rattle.std.specs.Prelude.{◌≡◌, ◌++◌, map, IfOk, OnOk};
-ghost use Rattle.aa_ask.specs.Naming.{count_of, name_item, label_if, first_named, in_digits, profiles_named};
+ghost use Rattle.std.specs.Prelude.{◌≡◌, ◌++◌, IfOk, OnOk};
+ghost use Rattle.aa_ask.specs.Naming.{label_if, first_named, in_digits, profiles_named};
+ghost use Rattle.aa_command.specs.Counts.{count_of};
 
 use crate::asking::label_in_digits;
+use crate::wildcards::name_pattern;
+use aa_command::count_of;
 use aa_compile::{Compiled, is_matched, name_of_label};
 use aa_model::Label;
-use aa_pattern::{Item, Pattern};
+use aa_pattern::Pattern;
 use std::alloc::{AllocError, Global};
-
-/// How many profiles there are.
-pub fn count_of(policies: &[Compiled]) -> u16
-    ensures { result ≡ count_of policies.now }
-{
-    match policies.get(0) {
-        Some(compiled) => compiled.policy().profiles.as_slice().len() as u16,
-        None => 0,
-    }
-}
-
-/// In the text of a name `*` stands for any bytes, each other byte for itself.
-fn item_of(byte: u8) -> Item
-    ensures { result ≡ name_item byte }
-{
-    if byte == b'*' {
-        Item::Deep
-    } else {
-        Item::Byte(byte)
-    }
-}
-
-fn items_of(alloc: Global, text: &[u8]) -> Result<Vec<Item>, AllocError>
-    ensures { IfOk result (λ items. items.items ≡ map name_item text.now) }
-{
-    let mut items = Vec::new(alloc);
-    for byte in text {
-        items.push(item_of(*byte))?;
-    }
-    Ok(items)
-}
 
 /// Adds the label of the profile of that number, where its full name is matched.
 fn push_if(
@@ -95,9 +67,7 @@ pub fn profiles_named(
 ) -> Result<Vec<Label>, AllocError>
     ensures { IfOk result (λ labels. labels.items ≡ profiles_named policies.now text.now) }
 {
-    let pattern = Pattern {
-        items: items_of(alloc, text)?,
-    };
+    let pattern = name_pattern(alloc, text)?;
     let labels = profiles_matched(alloc, policies, &pattern)?;
     if labels.is_empty() {
         return profile_in_digits(alloc, policies, text);

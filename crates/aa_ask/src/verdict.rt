@@ -3,10 +3,9 @@
 ghost use Rattle.std.specs.Prelude.{◌≡◌, map, option_map, OnOk, OnErr, IfOk};
 ghost use Rattle.std.specs.List.{list_any};
 ghost use Rattle.aa_mediate.specs.Reply.{reply};
-ghost use Rattle.aa_notation.specs.Kinds.{word_text};
 ghost use Rattle.aa_ask.specs.Verdicts.{is_by_complain, IsVerdict};
 ghost use Rattle.aa_ask.specs.Named.{Named, named, lacked};
-ghost use Rattle.aa_ask.specs.Told.{told, asker_of, is_same, label_told, missing, is_allowed, unfound, told_by, told_of, verdict_on};
+ghost use Rattle.aa_ask.specs.Told.{told, asker_of, is_same, is_confined, label_told, missing, is_allowed, unfound, told_by, told_of, verdict_on};
 
 use crate::explained::{DeciderLine, Explained, Lack, explain};
 use aa_command::Decided;
@@ -14,7 +13,7 @@ use aa_compile::{Compiled, name_of_label};
 use aa_machine::Machine;
 use aa_mediate::Mediator;
 use aa_model::{Answer, Label, NoteWord, Request};
-use aa_notation::push_word;
+use aa_notation::word_of;
 use std::alloc::{AllocError, Global};
 
 /// The answer to a request, and why.
@@ -57,7 +56,7 @@ fn is_allowed(deciders: &[DeciderLine], lacking: &[Lack]) -> bool
 }
 
 /// What can be missing where all that is asked is allowed.
-fn missing(request: &Request) -> Option<&'static str>
+pub fn missing(request: &Request) -> Option<&'static str>
     ensures { option_map (λ what. what.now) result ≡ missing request.now }
 {
     match request {
@@ -106,6 +105,13 @@ pub fn is_same(before: Label, after: Label) -> bool
     }
 }
 
+/// Whether a task with that label is confined.
+pub fn is_confined(label: Label) -> bool
+    ensures { result ≡ is_confined label }
+{
+    matches!(label, Label::Confined(_, _))
+}
+
 fn name_after(
     alloc: Global,
     policies: &[Compiled],
@@ -121,7 +127,7 @@ fn name_after(
 }
 
 /// The full name of the profile that asks, if the task is confined.
-fn asker_of(
+pub fn asker_of(
     alloc: Global,
     policies: &[Compiled],
     label: Label,
@@ -132,14 +138,6 @@ fn asker_of(
         Label::Unconfined(_) => Ok(None),
         Label::Confined(_, _) => Ok(Some(Vec::from_slice(alloc, name_of_label(policies, label))?)),
     }
-}
-
-fn word_of(alloc: Global, request: &Request) -> Result<Vec<u8>, AllocError>
-    ensures { IfOk result (λ word. word.items ≡ word_text request.now) }
-{
-    let mut word = Vec::new(alloc);
-    push_word(&mut word, request)?;
-    Ok(word)
 }
 
 /// What the mediator answers a task with that label.

@@ -17,8 +17,9 @@ use Rattle.aa_ask.specs.Asked.{name_in_digits}
 use Rattle.aa_quantifiers.proofs.Growing.{left, right, both, any_grows}
 use Rattle.aa_claims.specs.declared.words.ClaimWord.{ClaimWord}
 use Rattle.aa_claims.specs.Forms.{names_behind, names_within}
-use Rattle.aa_assert.specs.Names.{name_item, is_in_digits, names, may_begin, begins_in_digits, may_name, covers}
+use Rattle.aa_assert.specs.Names.{names, may_name, covers}
 use Rattle.aa_assert.specs.Scope.{is_among, is_about, may_be_among, are_all_among, may_be_about_behind}
+use Rattle.aa_ask.specs.Wildcards.{name_item, is_in_digits, may_begin, begins_in_digits}
 
 begins : (s rest : List ℕ) → starts_with nat_eq (s ++ rest) s ≡ true
 begins [] rest = refl

@@ -17,11 +17,11 @@ use Rattle.aa_claims.specs.declared.words.ClaimWord.{ClaimWord}
 use Rattle.aa_undecided.specs.Answers.{PlacedFile}
 use Rattle.aa_assert.specs.declared.asked.Asked.{Asked}
 use Rattle.aa_assert.specs.declared.part.Part.{Part}
-use Rattle.aa_who.specs.Grants.{count_of}
 use Rattle.aa_who.specs.Untold.{Untold}
 use Rattle.aa_assert.specs.Scope.{is_about, is_about_free}
 use Rattle.aa_assert.specs.Findings.{Found, AllFound, or_else, is_found, AreFoundAt, first_some, all_of, labels_from, labels_about, files_concerned}
 use Rattle.aa_assert.specs.Findings.{IsFoundAt, AreFoundOf}
+use Rattle.aa_command.specs.Counts.{count_of}
 
 -- ---- lists of files
 

@@ -15,8 +15,6 @@ use Rattle.aa_skipped.specs.declared.skipped.Skipped.{Skipped}
 use Rattle.aa_skipped.specs.Telling.{count_text}
 use Rattle.aa_skipped.specs.Policies.{IsPrintedOf}
 use Rattle.aa_undecided.specs.Answers.{placed}
-use Rattle.aa_who.specs.Shown.{passed_text}
-use Rattle.aa_who.specs.Command.{passed_in}
 use Rattle.aa_claims.specs.declared.lines.ClaimLine.{ClaimLine}
 use Rattle.aa_claims.specs.declared.fault.Wrong.{Wrong}
 use Rattle.aa_claims.specs.Lines.{AreClaims, IsFirstFault}
@@ -30,6 +28,7 @@ use Rattle.aa_assert.specs.Gcc.{gcc_answers}
 use Rattle.aa_assert.specs.Sarif.{sarif_answers}
 use Rattle.aa_check.specs.declared.form.Form.{Form}
 use Rattle.aa_check.specs.declared.form.Form.TheVariants.{Text, Json, Gcc, Sarif}
+use Rattle.aa_command.specs.Counts.{passed_in, passed_text}
 
 -- 1 where something can't be told, else 4 where a claim is broken, and else 5 where one is undecided
 abbrev pub status_of : List ℕ → ℕ → ℕ → ℕ

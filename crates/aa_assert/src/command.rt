@@ -19,12 +19,14 @@ use crate::sarif::push_sarif_answers;
 use crate::shown::{count_broken, count_undecided, push_answers, push_untold};
 use aa_check::Form;
 use aa_claims::{ClaimFault, ClaimLine, Wrong, claim_report, read_claims};
-use aa_command::{Decided, Output, Settings, Use, fault_refused, path_refused, with_policy};
+use aa_command::{
+    Decided, Output, Settings, Use, fault_refused, passed_in, path_refused, push_passed,
+    with_policy,
+};
 use aa_files::{Tree, main_text};
 use aa_skipped::{Skipped, UsePart, push_skipped_count, with_read_policy};
 use aa_text::{NoMemory, push_text, push_visible};
 use aa_undecided::all_placed;
-use aa_who::{passed_in, push_passed};
 use std::alloc::{AllocError, Global};
 
 /// Which claims are answered by which files, and how.

@@ -6,7 +6,7 @@ ghost use Rattle.aa_ask.specs.Named.{Named, named, lacked};
 ghost use Rattle.aa_ask.specs.Told.{told, is_allowed, missing, unfound};
 ghost use Rattle.aa_assert.specs.Enforced.{refused_told, enforced, enforced_on, complains_at};
 
-use aa_ask::{DeciderLine, Lack, Verdict, decide};
+use aa_ask::{DeciderLine, Lack, Verdict, decide, missing};
 use aa_command::Decided;
 use aa_compile::{Compiled, profile_of};
 use aa_model::{Label, Request};
@@ -30,18 +30,6 @@ fn is_allowed(deciders: &[DeciderLine], lacking: &[Lack]) -> bool
     ensures { result ≡ is_allowed (map named deciders.now) (map lacked lacking.now) }
 {
     lacking.is_empty() && !is_one_denying(deciders)
-}
-
-/// What can be missing where all that is asked is allowed.
-fn missing(request: &Request) -> Option<&'static str>
-    ensures { option_map (λ what. what.now) result ≡ missing request.now }
-{
-    match request {
-        Request::Exec(_) => Some("no profile is found to go on in"),
-        Request::Change(_) => Some("no profile has this name"),
-        Request::Link(_) => Some("the target isn't executed as the link is"),
-        _ => None,
-    }
 }
 
 /// What is missing besides, where a request is refused.

@@ -13,10 +13,10 @@ use crate::finding::{Claim, Findings, found_at};
 use crate::part::Part;
 use crate::scope::{is_about, is_about_free, may_concern};
 use aa_claims::{ClaimFault, ClaimWord};
+use aa_command::count_of;
 use aa_compile::profile_of;
 use aa_model::{Label, Profile};
 use aa_undecided::{SkippedAt, push_if};
-use aa_who::count_of;
 use std::alloc::{AllocError, Global};
 
 /// The skipped files that may have a profile which a claim of these words is about.

@@ -1,42 +1,15 @@
 //! The profiles that a name in a claim stands for.
 
-ghost use Rattle.std.specs.Prelude.{◌≡◌, map, false, IfOk};
+ghost use Rattle.std.specs.Prelude.{◌≡◌, false, IfOk};
 ghost use Rattle.std.specs.List.{list_any};
 ghost use Rattle.aa_claims.specs.declared.words.ClaimWord.{ClaimWord};
-ghost use Rattle.aa_assert.specs.Names.{name_item, is_in_digits, names, may_begin, begins_in_digits, may_name, covers};
+ghost use Rattle.aa_assert.specs.Names.{names, may_name, covers};
+ghost use Rattle.aa_ask.specs.Wildcards.{is_in_digits, may_begin, begins_in_digits};
 
-use aa_ask::name_in_digits;
+use aa_ask::{begins_in_digits, is_in_digits, may_begin, name_pattern};
 use aa_claims::ClaimWord;
 use aa_compile::is_matched;
-use aa_pattern::{Item, Pattern};
 use std::alloc::{AllocError, Global};
-
-fn name_item(b: u8) -> Item
-    ensures { result ≡ name_item b }
-{
-    if b == b'*' { Item::Deep } else { Item::Byte(b) }
-}
-
-/// The names that a word stands for, as a pattern.
-fn name_pattern(alloc: Global, text: &[u8]) -> Result<Pattern, AllocError>
-    ensures { IfOk result (λ p. p.items.items ≡ map name_item text.now) }
-{
-    let mut items = Vec::new(alloc);
-    for b in text {
-        items.push(name_item(*b))?;
-    }
-    Ok(Pattern { items })
-}
-
-/// Whether a name stands so in hexadecimal digits.
-fn is_in_digits(alloc: Global, digits: &[u8], name: &[u8]) -> Result<bool, AllocError>
-    ensures { IfOk result (λ is. is ≡ is_in_digits digits.now name.now) }
-{
-    match name_in_digits(alloc, digits)? {
-        Some(text) => Ok(text.as_slice() == name),
-        None => Ok(false),
-    }
-}
 
 /// Whether a word of a claim stands for a full name.
 pub(crate) fn is_named(alloc: Global, word: &ClaimWord, name: &[u8]) -> Result<bool, AllocError>
@@ -66,38 +39,6 @@ pub(crate) fn is_one_named(
         }
     }
     Ok(false)
-}
-
-/// Whether a word of these bytes may stand for a name that begins so.
-fn may_begin(front: &[u8], text: &[u8]) -> bool
-    ensures { result ≡ may_begin front.now text.now }
-{
-    let mut behind = front;
-    let mut rest = text;
-    while let [c, after @ ..] = behind {
-        let [b, others @ ..] = rest else {
-            return false;
-        };
-        if *b == b'*' {
-            return true;
-        }
-        if *b != *c {
-            return false;
-        }
-        behind = after;
-        rest = others;
-    }
-    true
-}
-
-/// Whether the name that stands in hexadecimal digits begins so.
-fn begins_in_digits(alloc: Global, digits: &[u8], front: &[u8]) -> Result<bool, AllocError>
-    ensures { IfOk result (λ is. is ≡ begins_in_digits digits.now front.now) }
-{
-    match name_in_digits(alloc, digits)? {
-        Some(name) => Ok(name.as_slice().starts_with(front)),
-        None => Ok(false),
-    }
 }
 
 /// Whether a word of a claim may stand for a full name that begins so.

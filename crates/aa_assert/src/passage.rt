@@ -4,16 +4,16 @@ ghost use Rattle.std.specs.Prelude.{◌≡◌, ◌≤◌, ◌<◌, ◌++◌, fal
 ghost use Rattle.aa_pattern.specs.Limits.{most_states};
 ghost use Rattle.aa_load.specs.UnitPolicy.{limit_of};
 ghost use Rattle.aa_reachability.specs.declared.trail.Arrival.{Arrival};
-ghost use Rattle.aa_who.specs.Counts.{asker};
 ghost use Rattle.aa_assert.specs.Passages.{is_elsewhere, do_count, why_text, untold_line, lead_past, IsShortestWay, IsLead, IsPassage};
 
 use aa_ask::is_same;
-use aa_compile::{Compiled, name_of_label};
+use aa_compile::Compiled;
 use aa_model::{Label, Request};
 use aa_quantifiers::Labels;
 use aa_reachability::{Arrival, Course, Going, Untold, Why, arrivals_beside, way_to};
-use aa_text::{push_name, push_number, push_text};
+use aa_text::{push_number, push_text};
 use aa_unclean_paths::does_request_count;
+use aa_who::push_asker;
 use std::alloc::{AllocError, Global};
 
 /// Whether requests lead to some labels, those at clean paths alone or all.
@@ -63,20 +63,6 @@ fn first_elsewhere(arrivals: &[Arrival], labels: &Labels, from: Label) -> Option
     arrivals
         .iter()
         .position(|arrival| is_elsewhere(labels, from, arrival.label))
-}
-
-fn push_asker(
-    out: &mut Vec<u8>,
-    alloc: Global,
-    policies: &[Compiled],
-    label: Label,
-) -> Result<(), AllocError>
-    ensures { OnOk result (out.new.items ≡ out.old.items ++ asker policies.now label) }
-{
-    match label {
-        Label::Unconfined(_) => push_text(out, "unconfined"),
-        Label::Confined(_, _) => push_name(out, alloc, name_of_label(policies, label)),
-    }
 }
 
 /// Appends that more states are needed than there may be.

@@ -7,12 +7,11 @@ ghost use Rattle.aa_ask.specs.Told.{asker_of};
 ghost use Rattle.aa_reachability.specs.Reach.{led_by};
 ghost use Rattle.aa_assert.specs.Passages.{going, as_others, plain, words_by, way_told, way_in};
 
-use aa_ask::is_same;
+use aa_ask::{asker_of, is_same};
 use aa_compile::Compiled;
 use aa_model::{Label, Request};
-use aa_notation::push_word;
+use aa_notation::word_of;
 use aa_reachability::{Going, label_after};
-use aa_who::asker_of;
 use std::alloc::{AllocError, Global};
 
 /// Who begins, where the list leads, and its requests as words.
@@ -47,14 +46,6 @@ fn last(policies: &[Compiled], from: Label, requests: &[Request]) -> Label
         rest = after;
     }
     label
-}
-
-fn word_of(alloc: Global, request: &Request) -> Result<Vec<u8>, AllocError>
-    ensures { IfOk result (λ word. word.items ≡ word_text request.now) }
-{
-    let mut word = Vec::new(alloc);
-    push_word(&mut word, request)?;
-    Ok(word)
 }
 
 /// To execute a file of others, where it is one of the task's user's; all else as it is.

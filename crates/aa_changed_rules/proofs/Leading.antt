@@ -62,8 +62,8 @@ module _ (m : Label) (e : RequestedExec) (n : ℕ) where
     child_led f s true h = absurd (none-some n h)
     child_led f s false h =
         ap (goes f s i) (
-          sym (ap (λ (o : Option Profile). option_and_then (λ (x : Profile). attached q.profiles (children q.profiles i) e.path) o) there)
-          ∙ alone_attached q o (Confined k i) Children h)
+        sym (ap (λ (o : Option Profile). option_and_then (λ (x : Profile). attached q.profiles (children q.profiles i) e.path) o) there)
+        ∙ alone_attached q o (Confined k i) Children h)
 
     kind_led : (kind : ExecKind) (f : Fallback) (s : Bool) (t : Option (List ℕ)) → Finds (range_by kind (is_some t) (is_some p.parent))
         → leads kind f s i (found_by q.profiles i p e.path kind t) ≡ To (Some n) s
@@ -94,7 +94,7 @@ module _ (m : Label) (e : RequestedExec) (n : ℕ) where
         let led = way_led (has_exec (file_verdict p.files e.path e.owned).deny) (way_of (chosen p.files e.path e.owned)) h in
         ap (λ (t : Transition). (decided p (Confined k i) (label_after k i t) (scrubs t) (exec_bits p.files e t)).label) led.1
         ∙ granted_by p.complain (answered true led.0 (Confined k n) (grant_note p (exec_bits p.files e (To (Some n) led.0))))
-          (answered false false (Confined k i) (refusal_note p (exec_bits p.files e (To (Some n) led.0)))) refl
+        (answered false false (Confined k i) (refusal_note p (exec_bits p.files e (To (Some n) led.0)))) refl
 
   at_profile : (ps : List Policy) (q o : Policy) (k i : ℕ) (x : Option Profile) → slice_get q.profiles i ≡ x
       → option_and_then (alone_among q o (Confined k i) m e.path) (option_and_then (range_in e) x) ≡ Some n

@@ -1,6 +1,6 @@
 -- What `check` finds, as a SARIF log.
 -- Source: SARIF 2.1.0, sections 3.4, 3.13, 3.14, 3.20, 3.27, 3.29, 3.30; RFC 3986, section 2; RFC 8089, section 2; own.
-use Rattle.std.specs.Prelude.{ℕ, ◌==◌, ◌&&◌, ◌||◌, nat_lt, nat_le, not, List, [], ◌∷◌, ◌++◌, map, flat_map, codes, decimal, Bool}
+use Rattle.std.specs.Prelude.{ℕ, ◌==◌, ◌&&◌, ◌||◌, nat_lt, nat_le, not, List, [], ◌∷◌, ◌++◌, length, map, flat_map, codes, decimal, Bool}
 use Rattle.std.specs.Prelude.{if◌then◌else◌, Option, Some, None, option_to_list, Vec}
 use Rattle.std.specs.Str.{is_utf8}
 use Rattle.std.specs.declared.alloc.Global.{Global}
@@ -9,6 +9,7 @@ use Rattle.aa_text.specs.Jsons.{json_text, json_bytes, key_text, bool_text, memb
 use Rattle.aa_text.specs.declared.position.PlaceAt.{PlaceAt}
 use Rattle.aa_text.specs.declared.fault.Link.{Link}
 use Rattle.aa_text.specs.declared.fault.FaultReport.{FaultReport}
+use Rattle.aa_command.specs.Untold.{Untelling}
 use Rattle.aa_check.specs.declared.sarif.Level.{Level}
 use Rattle.aa_check.specs.declared.sarif.Level.TheVariants.{Error, Warning}
 use Rattle.aa_check.specs.declared.report.FileReport.{FileReport}
@@ -126,6 +127,14 @@ notifications_member warnings = key_text (codes "toolExecutionNotifications") ++
 -- how a run went: what is told besides, and whether all could be looked at
 unfoldable pub invocations_text : Bool → List (List ℕ) → List ℕ
 invocations_text is_successful warnings = codes "[{" ++ notifications_member warnings ++ member_text (codes "executionSuccessful") (bool_text is_successful) ++ codes "}]"
+
+-- a profile of which nothing is told
+abbrev pub note_text : Untelling → List ℕ
+note_text u = notification_text Error u.text
+
+-- how the run went: it didn't look at all where of a profile nothing is told
+abbrev pub run_member : List Untelling → List ℕ
+run_member untold = member_text (codes "invocations") (invocations_text (length untold == 0) (map note_text untold))
 
 -- what stands before the results
 unfoldable pub sarif_head : List ℕ

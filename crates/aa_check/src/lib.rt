@@ -6,7 +6,7 @@
 //! `push_gcc_report` and `push_sarif_report` print the other forms that `Form` names. The meaning lies in the
 //! definitions `IsChecked` and `IsCheckOutput`. A file's policy is left to `aa_load`, the report on its first fault to
 //! `aa_diagnostics`, those behind it to `aa_faults`, and what its heads tell to `aa_skipped`. Other commands write
-//! their SARIF logs with `push_sarif_head` and `push_rule_members`.
+//! their SARIF logs with `push_sarif_head`, `push_rule_members` and `push_run`.
 //!
 //! An example, from `aapolicy_tests` (`that_something_cannot_be_read_is_told_before_that_a_policy_is_refused`):
 //!
@@ -37,6 +37,6 @@ pub use gcc::push_gcc_report;
 pub use jsons::push_json_report;
 pub use report::{CheckReport, FileReport, Passed, ProfileReport};
 pub use sarif::{
-    Invocations, Level, Location, Message, Notification, Related, push_rule_members,
+    Invocations, Level, Location, Message, Notification, Related, push_rule_members, push_run,
     push_sarif_head, push_sarif_report,
 };

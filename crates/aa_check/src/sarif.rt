@@ -1,12 +1,14 @@
 //! How the findings of `check` are written as a SARIF log.
 
-ghost use Rattle.std.specs.Prelude.{◌≡◌, ◌++◌, ◌<◌, not, map, flat_map, option_to_list, codes, OnOk, IfOk};
+ghost use Rattle.std.specs.Prelude.{◌≡◌, ◌==◌, ◌++◌, ◌<◌, not, map, flat_map, option_to_list, codes, OnOk, IfOk};
 ghost use Rattle.aa_text.specs.Jsons.{json_bytes, member_text};
-ghost use Rattle.aa_check.specs.Sarif.{is_alphanumeric, is_plain, uri_byte, scheme_of, uri_text, ascii_of, as_text, message_text, start_line, region_text, region_member, place_member, location_text, related_text, link_text, links_member, level_text, rule_members, fault_members, result_text, results_of, notification_text, notifications, all_notifications, results_member, notifications_member, invocations_text, sarif_head, sarif_report};
+ghost use Rattle.aa_check.specs.Sarif.{is_alphanumeric, is_plain, uri_byte, scheme_of, uri_text, ascii_of, as_text, message_text, start_line, region_text, region_member, place_member, location_text, related_text, link_text, links_member, level_text, rule_members, fault_members, result_text, results_of, notification_text, notifications, all_notifications, results_member, notifications_member, invocations_text, note_text, run_member, sarif_head, sarif_report};
 ghost use Rattle.aa_check.specs.Notified.{notified, related, found};
+ghost use Rattle.aa_command.specs.Untold.{untelling};
 
 use crate::report::{CheckReport, FileReport};
 use aa_base::push_hex;
+use aa_command::Untold;
 use aa_text::{
     FaultReport, Link, PlaceAt, ToJson, is_text, push_json_bytes, push_json_text, push_key,
     push_list, push_list_member, push_member, push_next_key, push_number, push_text,
@@ -479,6 +481,39 @@ fn run_of<'w, 'b>(report: &CheckReport, warnings: &'w [Notification<'b>]) -> Inv
         is_successful: !report.is_unread,
         warnings,
     }
+}
+
+/// Of which profiles nothing is told, and why.
+fn notes_of<'a>(alloc: Global, all: &'a [Untold]) -> Result<Vec<Notification<'a>>, AllocError>
+    ensures { IfOk result (λ list. notified list.items ≡ map note_text (map untelling all.now)) }
+{
+    let mut list = Vec::new(alloc);
+    for untold in all {
+        list.push(Notification {
+            level: Level::Error,
+            bytes: untold.text.as_slice(),
+        })?;
+    }
+    Ok(list)
+}
+
+/// Appends to a run of a SARIF log how it went, as a member: it didn't look at all where of a profile nothing is told, and there is a
+/// notification for each such profile. Want of memory is the one error.
+pub fn push_run(out: &mut Vec<u8>, alloc: Global, untold: &[Untold]) -> Result<(), AllocError>
+    ensures { OnOk result (out.new.items ≡ out.old.items ++ run_member (map untelling untold.now)) }
+{
+    let list = notes_of(alloc, untold)?;
+    let warnings = list.as_slice();
+    let is_successful = untold.is_empty();
+    push_member(
+        out,
+        alloc,
+        "invocations",
+        &Invocations {
+            is_successful,
+            warnings,
+        },
+    )
 }
 
 /// Appends what stands before the results of a SARIF log.

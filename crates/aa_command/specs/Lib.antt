@@ -7,3 +7,5 @@ pub mod Loads
 pub mod Policies
 pub mod LogFiles
 pub mod Written
+pub mod Counts
+pub mod Untold

@@ -76,3 +76,13 @@ pub fn path_refused(alloc: Global, path: &[u8], why: Unread) -> Result<Output, N
     }
     fault_refused(alloc, &unreadable(alloc, path, why)?, 3)
 }
+
+/// Says a line in place of answers, and ends with status 1.
+pub fn unanswered(alloc: Global, line: Vec<u8>) -> Output
+    ensures { printed result ≡ faults_alone line.items 1 }
+{
+    let mut output = Output::new(alloc);
+    output.faults = line;
+    output.status = 1;
+    output
+}

@@ -25,7 +25,8 @@ use Rattle.aa_diff.specs.declared.options.Wanted.{Wanted}
 use Rattle.aa_diff.specs.declared.signs.Sign.{Sign}
 use Rattle.aa_diff.specs.declared.signs.Sign.TheVariants.{Gain, Loss, Other}
 use Rattle.aa_diff.specs.declared.finding.Finding.{Finding}
-use Rattle.aa_diff.specs.Signs.{is_confined, moves_on, unscrubs, gains, sign_by, sign_of}
+use Rattle.aa_ask.specs.Told.{is_confined}
+use Rattle.aa_diff.specs.Signs.{moves_on, unscrubs, gains, sign_by, sign_of}
 use Rattle.aa_diff.specs.Changes.{is_same}
 use Rattle.aa_diff.specs.Gathered.{is_part, is_as_well}
 use Rattle.aa_diff.specs.Findings.{finding_of}

@@ -11,7 +11,7 @@ use Rattle.aa_report.specs.Entries.{in_block}
 use Rattle.aa_passed_over.specs.Apart.{ApartRule}
 use Rattle.aa_diff.specs.declared.options.Wanted.{Wanted}
 use Rattle.aa_diff.specs.declared.finding.Finding.{Finding}
-use Rattle.aa_diff.specs.Signs.{is_confined}
+use Rattle.aa_ask.specs.Told.{is_confined}
 use Rattle.aa_diff.specs.Findings.{is_profile}
 use Rattle.aa_diff.specs.Printed.{finding_part, profile_part, rule_part}
 use Rattle.aa_diff.specs.Report.{shown_of, rules_shown}

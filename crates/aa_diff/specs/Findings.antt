@@ -13,7 +13,8 @@ use Rattle.aa_diff.specs.declared.signs.Sign.{Sign}
 use Rattle.aa_diff.specs.declared.finding.Who.{Who}
 use Rattle.aa_diff.specs.declared.finding.Who.TheVariants.{Anybody, Owner, Others}
 use Rattle.aa_diff.specs.declared.finding.Finding.{Finding}
-use Rattle.aa_diff.specs.Signs.{is_confined, sign_number, sign_of}
+use Rattle.aa_ask.specs.Told.{is_confined}
+use Rattle.aa_diff.specs.Signs.{sign_number, sign_of}
 use Rattle.aa_diff.specs.Changes.{is_same, change_text}
 use Rattle.aa_diff.specs.declared.rules.Rule.{Rule}
 use Rattle.aa_diff.specs.Rules.{own_at, told_rules, rules_text}

@@ -12,7 +12,7 @@ use Rattle.aa_diff.specs.declared.options.DiffOptions.{DiffOptions}
 use Rattle.aa_diff.specs.declared.signs.Sign.{Sign}
 use Rattle.aa_diff.specs.declared.signs.Sign.TheVariants.{Gain, Loss, Other}
 use Rattle.aa_diff.specs.declared.finding.Finding.{Finding}
-use Rattle.aa_diff.specs.Signs.{is_confined}
+use Rattle.aa_ask.specs.Told.{is_confined}
 use Rattle.aa_diff.specs.declared.rules.Rule.{Rule}
 use Rattle.aa_diff.specs.Findings.{is_profile, is_uncounted, does_count, is_counted}
 use Rattle.aa_passed_over.specs.Apart.{ApartRule}

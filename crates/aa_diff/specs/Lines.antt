@@ -10,7 +10,7 @@ use Rattle.aa_passed_over.specs.Apart.{ApartRule, apart}
 use Rattle.aa_diff.specs.declared.finding.Finding.{Finding}
 use Rattle.aa_diff.specs.declared.lines.Line as line
 use Rattle.aa_diff.specs.declared.lines.Line.TheVariants as of
-use Rattle.aa_diff.specs.Signs.{is_confined}
+use Rattle.aa_ask.specs.Told.{is_confined}
 use Rattle.aa_diff.specs.Findings.{does_count}
 use Rattle.aa_diff.specs.Order.{name_cmp, in_order}
 use Rattle.aa_diff.specs.Sorted.{sorted_by}

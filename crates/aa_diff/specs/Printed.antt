@@ -21,7 +21,7 @@ use Rattle.aa_diff.specs.declared.signs.Sign.TheVariants.{Gain, Loss, Other}
 use Rattle.aa_diff.specs.declared.finding.Who.{Who}
 use Rattle.aa_diff.specs.declared.finding.Who.TheVariants.{Owner, Others}
 use Rattle.aa_diff.specs.declared.finding.Finding.{Finding}
-use Rattle.aa_diff.specs.Signs.{is_confined}
+use Rattle.aa_ask.specs.Told.{is_confined}
 use Rattle.aa_diff.specs.Changes.{is_same}
 use Rattle.aa_diff.specs.Findings.{is_profile}
 use Rattle.aa_diff.specs.Lines.{Told, Found, PassedOver, label_of, is_of_profile}

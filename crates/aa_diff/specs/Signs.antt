@@ -1,20 +1,15 @@
 -- What is gained and lost where two policies answer differently.
 -- Source: own.
-use Rattle.std.specs.Prelude.{ℕ, List, Bool, true, false, not, ◌&&◌, ◌||◌, if◌then◌else◌}
+use Rattle.std.specs.Prelude.{ℕ, List, Bool, not, ◌&&◌, ◌||◌, if◌then◌else◌}
 use Rattle.std.specs.Str.{bytes_eq}
 use Rattle.aa_model.specs.declared.policy.Policy.{Policy}
 use Rattle.aa_model.specs.declared.label.Label.{Label}
-use Rattle.aa_model.specs.declared.label.Label.TheVariants.{Unconfined, Confined}
 use Rattle.aa_model.specs.declared.answer.Answer.{Answer}
 use Rattle.aa_compile.specs.Labels.{label_name}
+use Rattle.aa_ask.specs.Told.{is_confined}
 use Rattle.aa_differences.specs.declared.at_labels.Difference.{Difference}
 use Rattle.aa_diff.specs.declared.signs.Sign.{Sign}
 use Rattle.aa_diff.specs.declared.signs.Sign.TheVariants.{Gain, Loss, Other}
-
--- a task with that label is confined
-abbrev pub is_confined : Label → Bool
-is_confined (Unconfined k) = false
-is_confined (Confined k n) = true
 
 -- both labels have one name
 abbrev pub is_called_same : List Policy → List Policy → Label → Label → Bool

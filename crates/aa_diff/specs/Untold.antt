@@ -1,6 +1,6 @@
 -- What isn't told: where files are skipped, and which of them could tell; and where patterns are too many.
 -- Source: own.
-use Rattle.std.specs.Prelude.{ℕ, List, [], ◌∷◌, ◌++◌, ◌+◌, ◌&&◌, not, min, map, filter, flat_map, count_by, codes, Bool, true, false, Option, Some, if◌then◌else◌}
+use Rattle.std.specs.Prelude.{ℕ, List, [], ◌∷◌, ◌++◌, ◌+◌, ◌&&◌, not, min, map, flat_map, count_by, codes, Bool, true, false, Option, Some, if◌then◌else◌, filter}
 use Rattle.std.specs.Option.{option_map_or}
 use Rattle.std.specs.List.{list_any, slice_get}
 use Rattle.std.specs.Str.{bytes_eq}
@@ -11,14 +11,14 @@ use Rattle.aa_model.specs.declared.label.Label.TheVariants.{Unconfined, Confined
 use Rattle.aa_compile.specs.FileRules.{is_nil}
 use Rattle.aa_files.specs.Texts.{texts}
 use Rattle.aa_skipping.specs.declared.unread.Head.{Head}
-use Rattle.aa_skipping.specs.Names.{is_doubtful}
 use Rattle.aa_skipped.specs.declared.skipped.Skipped.{Skipped}
 use Rattle.aa_compile.specs.Labels.{label_name, first_profiles}
+use Rattle.aa_ask.specs.Told.{is_confined}
 use Rattle.aa_undecided.specs.Answers.{PlacedFile, placed, placed_all, files_deciding}
+use Rattle.aa_undecided.specs.Named.{may_hold, files_holding_in}
 use Rattle.aa_differences.specs.declared.at_labels.Difference.{Difference}
 use Rattle.aa_differences.specs.declared.comparison.Excess.{Excess}
 use Rattle.aa_differences.specs.declared.comparison.UntoldLabels.{UntoldLabels}
-use Rattle.aa_differences.specs.Openings.{is_open_label}
 use Rattle.aa_passed_over.specs.declared.apart.Side.{Side}
 use Rattle.aa_passed_over.specs.declared.apart.Side.TheVariants.{Old, New}
 use Rattle.aa_passed_over.specs.Apart.{number_named}
@@ -30,7 +30,7 @@ use Rattle.aa_diff.specs.declared.untold.Doubt.{Doubt}
 use Rattle.aa_diff.specs.declared.untold.TooLarge.{TooLarge}
 use Rattle.aa_diff.specs.declared.untold.Doubts.{Doubts}
 use Rattle.aa_diff.specs.Named.{is_named}
-use Rattle.aa_diff.specs.Signs.{is_confined}
+use Rattle.aa_differences.specs.Openings.{is_open_label}
 
 -- of whom something isn't told: tasks without a profile, those of the profile with a full name, or those of any that isn't read
 pub data About : Type 0 where
@@ -128,15 +128,7 @@ has_name name h = bytes_eq h.name name
 abbrev pub is_head : List ℕ → Skipped → Bool
 is_head name k = list_any (has_name name) k.unread.heads
 
--- a skipped file may hold the profile of that name, and none that is read has it
-abbrev pub may_hold : List Profile → List ℕ → Skipped → Bool
-may_hold profiles name k = is_doubtful profiles k.unread name
-
--- the files of which that is so
-abbrev pub files_holding_in : List Skipped → List ℕ → Policy → List PlacedFile
-files_holding_in skipped name policy = map placed (filter (may_hold policy.profiles name) skipped)
-
--- the same by the one policy
+-- the skipped files that may hold the profile of that name, which none that is read has, by the one policy
 unfoldable pub files_holding : Part → List ℕ → List PlacedFile
 files_holding d name = option_map_or (files_holding_in d.skipped.now name) (slice_get d.decided.policies.now 0) []
 

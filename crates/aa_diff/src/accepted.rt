@@ -10,7 +10,7 @@ use crate::finding::{Finding, is_profile};
 use crate::options::Wanted;
 use crate::printing::{push_finding_part, push_profile_part, push_rule_part};
 use crate::report::{rules_shown, shown_of};
-use crate::signs::is_confined;
+use aa_ask::is_confined;
 use aa_compile::{Compiled, name_of_label};
 use aa_model::Label;
 use aa_passed_over::Apart;

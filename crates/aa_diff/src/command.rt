@@ -34,7 +34,7 @@ use crate::sides::{mark, note, of_side};
 use crate::unclean::all_told_unclean;
 use crate::untold::{Doubts, all_untold};
 use crate::untold_shown::push_large_faults;
-use aa_command::{Decided, Output, Settings, Use, path_refused, with_policy};
+use aa_command::{Decided, Output, Settings, Use, path_refused, unanswered, with_policy};
 use aa_compile::Compiled;
 use aa_differences::{Comparison, Difference, policy_differences};
 use aa_files::{Tree, main_text};
@@ -273,21 +273,11 @@ fn compare_all(
     print_differences(alloc, options, limit, old, new, found)
 }
 
-/// Says a line in place of what is compared.
-fn say(alloc: Global, line: Vec<u8>) -> Output
-    ensures { printed result ≡ faults_alone line.items 1 }
-{
-    let mut output = Output::new(alloc);
-    output.faults = line;
-    output.status = 1;
-    output
-}
-
 fn say_unnamed(alloc: Global, name: &[u8]) -> Result<Output, NoMemory>
     ensures { IfOk result (λ out. printed out ≡ faults_alone (no_profile name.now) 1) }
 {
     let line = no_profile(alloc, name)?;
-    Ok(say(alloc, line))
+    Ok(unanswered(alloc, line))
 }
 
 /// The same, where somebody is called by each of the names that are wanted; else that nobody is by the first of the others.

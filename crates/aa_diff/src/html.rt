@@ -20,9 +20,10 @@ use crate::printing::{
 };
 use crate::report::{push_line_counts, push_profile_counts, push_rules_count};
 use crate::rules::Rule;
-use crate::signs::{Sign, is_confined};
+use crate::signs::Sign;
 use crate::untold::{Doubt, Doubts, TooLarge};
 use crate::untold_shown::{count_of, push_large_words, push_skipped, push_words};
+use aa_ask::is_confined;
 use aa_compile::{Compiled, name_of_label};
 use aa_model::Label;
 use aa_notation::push_word;

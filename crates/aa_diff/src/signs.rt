@@ -1,8 +1,9 @@
 //! What is gained and lost where two policies answer differently.
 
 ghost use Rattle.std.specs.Prelude.{◌≡◌};
-ghost use Rattle.aa_diff.specs.Signs.{is_confined, is_called_same, moves_on, unscrubs, gains, sign_by, sign_of, sign_number};
+ghost use Rattle.aa_diff.specs.Signs.{is_called_same, moves_on, unscrubs, gains, sign_by, sign_of, sign_number};
 
+use aa_ask::is_confined;
 use aa_compile::{Compiled, name_of_label};
 use aa_differences::Difference;
 use aa_model::{Answer, Label};
@@ -16,16 +17,6 @@ pub enum Sign {
     Loss,
     /// Neither.
     Other,
-}
-
-/// Whether a task with that label is confined.
-pub(crate) fn is_confined(label: Label) -> bool
-    ensures { result ≡ is_confined label }
-{
-    match label {
-        Label::Unconfined(_) => false,
-        Label::Confined(_, _) => true,
-    }
 }
 
 fn is_called_same(one: &[Compiled], before: Label, other: &[Compiled], after: Label) -> bool

@@ -7,19 +7,20 @@ ghost use Rattle.aa_passed_over.specs.Apart.{number_named};
 ghost use Rattle.aa_passed_over.specs.declared.apart.Side.TheVariants.{Old, New};
 ghost use Rattle.aa_skipping.specs.declared.unread.Head.{Head};
 ghost use Rattle.aa_undecided.specs.Answers.{placed, placed_all};
-ghost use Rattle.aa_diff.specs.Untold.{About, Free, Named, Others, about, untold, is_shown, is_some_file, untold_if, files_opening_in, files_opening, undecided_at, undecided_by, undecided_of, all_undecided, untold_of, untold_head, untold_others, untold_file, has_name, is_head, may_hold, files_holding_in, files_holding, untold_missing, all_not_compared, is_left_out, about_label, large, large_of, all_large, is_profiles, all_left_out, doubts_data, all_untold};
+ghost use Rattle.aa_undecided.specs.Named.{may_hold};
+ghost use Rattle.aa_diff.specs.Untold.{About, Free, Named, Others, about, untold, is_shown, is_some_file, untold_if, files_opening_in, files_opening, undecided_at, undecided_by, undecided_of, all_undecided, untold_of, untold_head, untold_others, untold_file, has_name, is_head, files_holding, untold_missing, all_not_compared, is_left_out, about_label, large, large_of, all_large, is_profiles, all_left_out, doubts_data, all_untold};
 
 use crate::options::Wanted;
 use crate::part::Part;
 use crate::report::is_named;
-use crate::signs::is_confined;
+use aa_ask::is_confined;
 use aa_compile::{Compiled, first_profiles, name_of_label};
 use aa_differences::{Excess, UntoldLabels, label_is_open};
 use aa_model::{Label, Profile};
 use aa_passed_over::{Side, number_named};
 use aa_skipped::Skipped;
-use aa_skipping::{Head, name_is_doubtful};
-use aa_undecided::{SkippedAt, all_placed, push_if};
+use aa_skipping::Head;
+use aa_undecided::{SkippedAt, all_placed, files_holding_in, may_hold, push_if};
 use std::alloc::{AllocError, Global};
 
 /// Of whom something isn't told.
@@ -367,28 +368,6 @@ fn one_is_head(name: &[u8], skipped: &[Skipped]) -> bool
     ensures { result ≡ list_any (is_head name.now) skipped.now }
 {
     skipped.iter().any(|file| is_head(name, file))
-}
-
-fn may_hold(compiled: &Compiled, name: &[u8], file: &Skipped) -> bool
-    ensures { result ≡ may_hold compiled.now.profiles name.now file.now }
-{
-    name_is_doubtful(compiled, &file.unread, name)
-}
-
-fn files_holding_in(
-    alloc: Global,
-    skipped: &[Skipped],
-    name: &[u8],
-    compiled: &Compiled,
-) -> Result<Vec<SkippedAt>, AllocError>
-    ensures { IfOk result (λ files. placed_all files.items ≡ files_holding_in skipped.now name.now compiled.now) }
-{
-    let mut files = Vec::new(alloc);
-    for file in skipped {
-        let holds = may_hold(compiled, name, file);
-        push_if(alloc, &mut files, holds, file)?;
-    }
-    Ok(files)
 }
 
 /// The skipped files of a side that may hold the profile of a name that no read one has.

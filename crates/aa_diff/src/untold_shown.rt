@@ -4,8 +4,6 @@ ghost use Rattle.std.specs.Prelude.{◌≡◌, ◌++◌, ◌+◌, codes, flat_ma
 ghost use Rattle.aa_base.specs.Values.{value};
 ghost use Rattle.aa_text.specs.Jsons.{key_text, member_text, list_text};
 ghost use Rattle.aa_undecided.specs.Answers.{placed_data, placed_all};
-ghost use Rattle.aa_text.specs.Faults.{where_if};
-ghost use Rattle.aa_undecided.specs.Shown.{refused_at};
 ghost use Rattle.aa_undecided.specs.Jsons.{json_placed};
 ghost use Rattle.aa_diff.specs.Untold.{about, untold, large, doubts_data};
 ghost use Rattle.aa_diff.specs.UntoldShown.{about_text, skips_text, files_text, untold_words, untold_line, states_text, excess_text, large_words, large_line, untold_text, at_text, help_text, large_fault, skipped_text, json_who, json_files, json_untold, json_large, json_all_large, json_skipped, json_all_untold};
@@ -16,10 +14,10 @@ use aa_differences::Excess;
 use aa_passed_over::Side;
 use aa_skipped::push_skipped_count;
 use aa_text::{
-    PlaceAt, ToJson, push_json_bytes, push_key, push_list, push_list_member, push_name,
-    push_next_key, push_number, push_text, push_visible, push_where,
+    ToJson, push_json_bytes, push_key, push_list, push_list_member, push_name, push_next_key,
+    push_number, push_text, push_visible,
 };
-use aa_undecided::SkippedAt;
+use aa_undecided::{SkippedAt, push_refused_at};
 use std::alloc::{AllocError, Global};
 
 fn push_profile(out: &mut Vec<u8>, alloc: Global, name: &[u8]) -> Result<(), AllocError>
@@ -39,24 +37,6 @@ fn push_about(out: &mut Vec<u8>, alloc: Global, subject: &Subject) -> Result<(),
         Subject::Profile(name) => push_profile(out, alloc, name.as_slice()),
         Subject::Others => push_text(out, "other profiles are"),
     }
-}
-
-fn push_place(out: &mut Vec<u8>, at: &[u8], place: Option<PlaceAt>) -> Result<(), AllocError>
-    ensures { OnOk result (out.new.items ≡ out.old.items ++ where_if at.now place) }
-{
-    match place {
-        Some(place) => push_where(out, at, place),
-        None => push_visible(out, at),
-    }
-}
-
-/// Appends where a file is refused.
-#[tactic(auto, unfolding(aa_undecided::specs::Shown::refused_at))]
-fn push_refused_at(out: &mut Vec<u8>, at: &[u8], place: Option<PlaceAt>) -> Result<(), AllocError>
-    ensures { OnOk result (out.new.items ≡ out.old.items ++ refused_at at.now place) }
-{
-    push_text(out, ", refused at ")?;
-    push_place(out, at, place)
 }
 
 /// Appends that a side skips a file, where that is refused, and how many more files there are.

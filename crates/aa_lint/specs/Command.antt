@@ -18,11 +18,12 @@ use Rattle.aa_lint.specs.declared.command.LintOptions.{LintOptions}
 use Rattle.aa_text.specs.Nearest.{nearest_name}
 use Rattle.aa_lint.specs.Names.{all_names, is_name}
 use Rattle.aa_lint.specs.Telling.{Telling}
-use Rattle.aa_lint.specs.Untold.{Untelling, untold_lines}
+use Rattle.aa_command.specs.Untold.{Untelling, untold_lines}
 use Rattle.aa_lint.specs.Forms.{answers_in}
 use Rattle.aa_report.specs.Lines.{lines_in}
 use Rattle.aa_lint.specs.Known.{unknown, gone_among}
-use Rattle.aa_lint.specs.Lint.{AllTold, AreTold, count_of}
+use Rattle.aa_lint.specs.Lint.{AllTold, AreTold}
+use Rattle.aa_command.specs.Counts.{count_of}
 
 -- 5 where files are skipped, which aren't looked at
 abbrev pub open_status : List Skipped → ℕ

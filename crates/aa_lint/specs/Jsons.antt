@@ -4,7 +4,7 @@ use Rattle.std.specs.Prelude.{ℕ, List, ◌++◌, map, codes, decimal, Option, 
 use Rattle.aa_text.specs.Jsons.{json_text, json_bytes, json_place, key_text, member_text, member_if, list_text}
 use Rattle.aa_lint.specs.Names.{name_of}
 use Rattle.aa_lint.specs.Telling.{Standing, Telling}
-use Rattle.aa_lint.specs.Untold.{Untelling}
+use Rattle.aa_command.specs.Untold.{Untelling, json_untold}
 use Rattle.aa_lint.specs.Shown.{why_text}
 
 -- a place in a file, as an object
@@ -31,10 +31,6 @@ json_beside t =
 -- a finding as an object
 unfoldable pub json_finding : Telling → List ℕ
 json_finding t = json_named t ++ json_why t ++ json_beside t ++ codes "}"
-
--- the name of a profile of which nothing can be found
-abbrev pub json_untold : Untelling → List ℕ
-json_untold u = json_bytes u.profile
 
 -- the findings, as the first member of an object
 unfoldable pub json_findings : List Telling → List ℕ

@@ -1,9 +1,6 @@
 -- What is found of all profiles.
 -- Source: own.
-use Rattle.std.specs.Prelude.{◌≡◌, ℕ, zero, suc, List, [], ◌∷◌, ◌++◌, length, codes, map, Option, Some, None}
-use Rattle.std.specs.List.{slice_get}
-use Rattle.std.specs.Option.{option_map_or}
-use Rattle.aa_model.specs.declared.policy.Policy.{Policy}
+use Rattle.std.specs.Prelude.{◌≡◌, ℕ, zero, suc, List, [], ◌∷◌, ◌++◌, codes, map, Option, Some, None}
 use Rattle.aa_model.specs.declared.policy.Profile.{Profile}
 use Rattle.aa_compile.specs.Labels.{profile_in, first_profiles}
 use Rattle.aa_findings.specs.declared.fault.FindingsFault.{FindingsFault}
@@ -13,7 +10,8 @@ use Rattle.aa_findings.specs.Found.{AreFindingsAt, HasNoFindingsAt}
 use Rattle.aa_command.specs.declared.decided.Decided.{Decided}
 use Rattle.aa_lint.specs.declared.gathering.Lint.{Lint}
 use Rattle.aa_lint.specs.Telling.{Telling, telling, all_told}
-use Rattle.aa_lint.specs.Untold.{Untelling, untelling, untold_text}
+use Rattle.aa_command.specs.Untold.{Untelling, untelling}
+use Rattle.aa_lint.specs.Untold.{untold_text}
 
 -- what is told, and the profiles of which nothing can be found
 pub record AllTold : Type 0 where
@@ -51,10 +49,6 @@ AddsAt d limit except n (Some p) was now = AddsOf d limit except n p was now
 -- in the first policy
 abbrev pub AddsLint : Decided → ℕ → List (List ℕ) → ℕ → AllTold → AllTold → Type 0
 AddsLint d limit except n was now = AddsAt d limit except n (profile_in d.policies.now 0 n) was now
-
--- how many profiles there are
-abbrev pub count_of : List Policy → ℕ
-count_of policies = option_map_or (λ (p : Policy). length p.profiles) (slice_get policies 0) 0
 
 -- what is told of the first n profiles, in order
 abbrev pub AreTold : Decided → ℕ → List (List ℕ) → ℕ → AllTold → Type 0

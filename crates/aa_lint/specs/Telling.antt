@@ -4,10 +4,10 @@ use Rattle.std.specs.Prelude.{ℕ, ◌==◌, ◌&&◌, not, List, [], flat_map, 
 use Rattle.std.specs.List.{slice_get}
 use Rattle.aa_base.specs.declared.fault.Spot.{Spot}
 use Rattle.aa_model.specs.declared.policy.Profile.{Profile}
-use Rattle.aa_text.specs.Places.{place_in}
 use Rattle.aa_text.specs.declared.position.PlaceAt.{PlaceAt}
 use Rattle.aa_explain.specs.declared.places.ProfilePlaces.{ProfilePlaces}
 use Rattle.aa_files.specs.declared.unit.Unit as unit
+use Rattle.aa_files.specs.Links.{stands_at}
 use Rattle.aa_files.specs.Numbers.{path_in, text_in}
 use Rattle.aa_rule_text.specs.RuleTexts.{rule_text}
 use Rattle.aa_findings.specs.declared.finding.Finding.{Finding}
@@ -67,10 +67,6 @@ with_number (File _) n = File n
 with_number (Cap _) n = Cap n
 with_number (Net _) n = Net n
 with_number (Change _) n = Change n
-
--- a byte of a text with its line and column
-abbrev pub stands_at : List ℕ → ℕ → PlaceAt
-stands_at text byte = record { line = (place_in text byte).line; column = (place_in text byte).column; byte = byte }
 
 -- a place of a unit
 abbrev pub standing_at : unit.Unit → Spot → Standing

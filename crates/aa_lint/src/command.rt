@@ -7,7 +7,7 @@ ghost use Rattle.aa_command.specs.Printed.{printed, faults_alone};
 ghost use Rattle.aa_text.specs.Nearest.{nearest_name};
 ghost use Rattle.aa_lint.specs.Names.{all_names};
 ghost use Rattle.aa_lint.specs.Telling.{telling};
-ghost use Rattle.aa_lint.specs.Untold.{untelling, untold_lines};
+ghost use Rattle.aa_command.specs.Untold.{untelling, untold_lines};
 ghost use Rattle.aa_report.specs.Lines.{lines_in};
 ghost use Rattle.aa_lint.specs.Known.{unknown, gone_among};
 ghost use Rattle.aa_lint.specs.Lint.{lint_data};
@@ -18,9 +18,10 @@ use crate::forms::push_answers;
 use crate::gathering::{Lint, lint_all};
 use crate::known::{lines_of, push_gone_among, unknown_of};
 use crate::told::Told;
-use crate::untold::{Untold, push_all_untold};
 use aa_check::Form;
-use aa_command::{Decided, Output, Settings, Use, path_refused, with_policy};
+use aa_command::{
+    Decided, Output, Settings, Untold, Use, path_refused, push_untold_lines, with_policy,
+};
 use aa_files::{Tree, main_text};
 use aa_report::{lines_as_set, lines_in};
 use aa_skipped::{Skipped, UsePart, with_read_policy};
@@ -74,7 +75,7 @@ fn push_faults(
     ensures { OnOk result (out.new.items ≡ out.old.items ++ untold_lines (lint_data lint.now).untold ++ gone_among (slices lines.now) (lint_data lint.now)) }
 {
     let found = lines_of(alloc, lint.told.as_slice())?;
-    push_all_untold(out, lint.untold.as_slice())?;
+    push_untold_lines(out, lint.untold.as_slice())?;
     push_gone_among(out, alloc, found.as_slice(), lines)
 }
 

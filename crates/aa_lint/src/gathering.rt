@@ -5,13 +5,14 @@ ghost use Rattle.aa_pattern.specs.Limits.{most_states};
 ghost use Rattle.aa_files.specs.Texts.{texts};
 ghost use Rattle.aa_load.specs.UnitPolicy.{limit_of};
 ghost use Rattle.aa_findings.specs.Below.{AreAttached};
-ghost use Rattle.aa_lint.specs.Lint.{lint_data, count_of, with_found, with_untold, AddsWhy, AddsOf, AddsLint, AreTold};
+ghost use Rattle.aa_lint.specs.Lint.{lint_data, with_found, with_untold, AddsWhy, AddsOf, AddsLint, AreTold};
+ghost use Rattle.aa_command.specs.Counts.{count_of};
 
 use crate::telling::push_all_told;
 use crate::told::Told;
-use crate::untold::{Untold, untold_of};
-use aa_command::Decided;
-use aa_compile::{Compiled, first_profiles, profile_of};
+use crate::untold::untold_of;
+use aa_command::{Decided, Untold, count_of};
+use aa_compile::{first_profiles, profile_of};
 use aa_findings::{Attached, Finding, FindingsFault, attached_of, findings_of};
 use aa_model::Profile;
 use std::alloc::{AllocError, Global};
@@ -155,16 +156,6 @@ fn push_lint_at(
     push_lint(
         lint, alloc, decided, attached, limit, except, number, profile,
     )
-}
-
-/// How many profiles there are.
-fn count_of(policies: &[Compiled]) -> u16
-    ensures { result ≡ count_of policies.now }
-{
-    match policies.get(0) {
-        Some(compiled) => compiled.policy().profiles.as_slice().len() as u16,
-        None => 0,
-    }
 }
 
 /// What is found of all profiles, in order, by automata of at most so many states.

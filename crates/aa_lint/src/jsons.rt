@@ -1,18 +1,18 @@
 //! What is found, as JSON.
 
 ghost use Rattle.std.specs.Prelude.{◌≡◌, ◌++◌, codes, map, option_map, OnOk};
-ghost use Rattle.aa_text.specs.Jsons.{member_text, member_if, list_text};
+ghost use Rattle.aa_text.specs.Jsons.{member_if, list_text};
 ghost use Rattle.aa_lint.specs.Telling.{standing, telling};
-ghost use Rattle.aa_lint.specs.Untold.{untelling};
-ghost use Rattle.aa_lint.specs.Jsons.{json_standing, json_named, json_why, bytes_if, json_beside, json_finding, json_untold, json_findings, json_lint};
+ghost use Rattle.aa_command.specs.Untold.{untelling};
+ghost use Rattle.aa_lint.specs.Jsons.{json_standing, json_named, json_why, bytes_if, json_beside, json_finding, json_findings, json_lint};
 
 use crate::finding_names::name_of;
 use crate::shown::push_why;
 use crate::told::{Site, Told};
-use crate::untold::Untold;
+use aa_command::{Untold, push_untold_member};
 use aa_text::{
-    ToJson, push_comma, push_json_place, push_json_text, push_key, push_list, push_list_member,
-    push_member, push_text,
+    ToJson, push_comma, push_json_place, push_json_text, push_key, push_list, push_member,
+    push_text,
 };
 use std::alloc::{AllocError, Global};
 
@@ -104,17 +104,6 @@ impl ToJson for Told {
     }
 }
 
-impl ToJson for Untold {
-    ghost use Rattle.aa_lint.specs.Untold.{untelling};
-    ghost use Rattle.aa_lint.specs.Jsons.{json_untold};
-
-    ghost json = { λ untold. json_untold (untelling untold) };
-
-    fn push_json(&self, out: &mut Vec<u8>, alloc: Global) -> Result<(), AllocError> {
-        self.profile.push_json(out, alloc)
-    }
-}
-
 fn push_told_list(out: &mut Vec<u8>, alloc: Global, told: &[Told]) -> Result<(), AllocError>
     ensures { OnOk result (out.new.items ≡ out.old.items ++ list_text (map json_finding (map telling told.now))) }
 {
@@ -130,14 +119,6 @@ fn push_findings(out: &mut Vec<u8>, alloc: Global, told: &[Told]) -> Result<(), 
     push_text(out, "{")?;
     push_key(out, "findings")?;
     push_told_list(out, alloc, told)
-}
-
-/// Appends the names of those profiles of which nothing can be found.
-fn push_untold_member(out: &mut Vec<u8>, alloc: Global, untold: &[Untold]) -> Result<(), AllocError>
-    ensures { OnOk result (out.new.items ≡ out.old.items ++ member_text (codes "untold") (list_text (map json_untold (map untelling untold.now)))) }
-{
-    push_list_member(out, alloc, "untold", untold)?;
-    Ok(())
 }
 
 /// Appends what is found and how many files are skipped, as one object and a line end.

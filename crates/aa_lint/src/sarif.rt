@@ -1,22 +1,19 @@
 //! What is found, as a SARIF log.
 
-ghost use Rattle.std.specs.Prelude.{◌≡◌, ◌==◌, ◌++◌, Some, codes, length, map, OnOk, IfOk};
+ghost use Rattle.std.specs.Prelude.{◌≡◌, ◌++◌, Some, codes, map, OnOk, IfOk};
 ghost use Rattle.aa_text.specs.Jsons.{member_text};
 ghost use Rattle.aa_check.specs.Sarif.{message_text, location_text};
-ghost use Rattle.aa_check.specs.Notified.{notified};
 ghost use Rattle.aa_lint.specs.Telling.{standing, telling};
-ghost use Rattle.aa_lint.specs.Untold.{untelling};
+ghost use Rattle.aa_command.specs.Untold.{untelling};
 ghost use Rattle.aa_lint.specs.Shown.{finding_text};
-ghost use Rattle.aa_lint.specs.Sarif.{result_text, results_member, note_text, run_member, sarif_lint};
+ghost use Rattle.aa_lint.specs.Sarif.{result_text, results_member, sarif_lint};
 ghost use Rattle.aa_lint.specs.Listed.{found};
 
 use crate::finding_names::name_of;
 use crate::shown::push_finding;
 use crate::told::{Site, Told};
-use crate::untold::Untold;
-use aa_check::{
-    Invocations, Level, Location, Message, Notification, push_rule_members, push_sarif_head,
-};
+use aa_check::{Level, Location, Message, push_rule_members, push_run, push_sarif_head};
+use aa_command::Untold;
 use aa_text::{ToJson, push_list_member, push_member, push_text};
 use std::alloc::{AllocError, Global};
 
@@ -83,38 +80,6 @@ fn push_results(out: &mut Vec<u8>, alloc: Global, told: &[Told]) -> Result<(), A
 {
     let list = results_of(alloc, told)?;
     push_list_member(out, alloc, "results", list.as_slice())
-}
-
-/// Of which profiles nothing can be found, and why.
-fn notes_of<'a>(alloc: Global, all: &'a [Untold]) -> Result<Vec<Notification<'a>>, AllocError>
-    ensures { IfOk result (λ list. notified list.items ≡ map note_text (map untelling all.now)) }
-{
-    let mut list = Vec::new(alloc);
-    for untold in all {
-        list.push(Notification {
-            level: Level::Error,
-            bytes: untold.text.as_slice(),
-        })?;
-    }
-    Ok(list)
-}
-
-/// Appends how the run went, as a member.
-fn push_run(out: &mut Vec<u8>, alloc: Global, untold: &[Untold]) -> Result<(), AllocError>
-    ensures { OnOk result (out.new.items ≡ out.old.items ++ run_member (map untelling untold.now)) }
-{
-    let list = notes_of(alloc, untold)?;
-    let warnings = list.as_slice();
-    let is_successful = untold.is_empty();
-    push_member(
-        out,
-        alloc,
-        "invocations",
-        &Invocations {
-            is_successful,
-            warnings,
-        },
-    )
 }
 
 /// Appends what is found, as one SARIF log (version 2.1.0) and a line end: a result for each finding, and a notification for each

@@ -1,19 +1,12 @@
 //! Profiles of which nothing can be found.
 
-ghost use Rattle.std.specs.Prelude.{◌≡◌, ◌++◌, IfOk, OnOk, map, flat_map};
-ghost use Rattle.aa_lint.specs.Untold.{untelling, untold_text, untold_line, untold_lines};
+ghost use Rattle.std.specs.Prelude.{◌≡◌, ◌++◌, IfOk, OnOk};
+ghost use Rattle.aa_command.specs.Untold.{untelling};
+ghost use Rattle.aa_lint.specs.Untold.{untold_text};
 
+use aa_command::Untold;
 use aa_text::{push_name, push_text};
 use std::alloc::{AllocError, Global};
-
-/// A profile of which nothing can be found.
-#[derive(Drop)]
-pub(crate) struct Untold {
-    /// Its full name.
-    pub(crate) profile: Vec<u8>,
-    /// Of what nothing is found, and why.
-    pub(crate) text: Vec<u8>,
-}
 
 /// Appends of what nothing is found, and why.
 #[tactic(auto, unfolding(crate::specs::Untold::untold_text))]
@@ -43,23 +36,4 @@ pub(crate) fn untold_of(alloc: Global, name: &[u8], why: &str) -> Result<Untold,
         profile: Vec::from_slice(alloc, name)?,
         text: text_of(alloc, name, why)?,
     })
-}
-
-#[tactic(auto, unfolding(crate::specs::Untold::untold_line))]
-fn push_untold(out: &mut Vec<u8>, untold: &Untold) -> Result<(), AllocError>
-    ensures { OnOk result (out.new.items ≡ out.old.items ++ untold_line (untelling untold.now)) }
-{
-    push_text(out, "error: ")?;
-    out.extend_from_slice(untold.text.as_slice())?;
-    push_text(out, "\n")
-}
-
-/// Appends a line for each of them.
-pub(crate) fn push_all_untold(out: &mut Vec<u8>, all: &[Untold]) -> Result<(), AllocError>
-    ensures { OnOk result (out.new.items ≡ out.old.items ++ untold_lines (map untelling all.now)) }
-{
-    for untold in all {
-        push_untold(out, untold)?;
-    }
-    Ok(())
 }

@@ -15,10 +15,11 @@ use Rattle.aa_logs.specs.Outcomes.{Outcome, Another, AsksNothing, AsksFor, Recor
 use Rattle.aa_logs.specs.Records.{line_in}
 use Rattle.aa_logs.specs.Chosen.{is_among, is_chosen}
 use Rattle.aa_logs.specs.LogLines.{LogLine}
+use Rattle.aa_messages.specs.Unclear.{is_another}
 use Rattle.aa_log.specs.declared.logging.LinePlace.{LinePlace}
 use Rattle.aa_log.specs.declared.logging.LogReport.{LogReport}
 use Rattle.aa_log.specs.Counted.{greatest, firsts, counted}
-use Rattle.aa_log.specs.Found.{Asked, Skipped, place_of, asked_at, asked_by, asked_key, skipped_by, skipped_for, skipped_key, skipped_data, is_another}
+use Rattle.aa_log.specs.Found.{Asked, Skipped, place_of, asked_at, asked_by, asked_key, skipped_by, skipped_for, skipped_key, skipped_data}
 use Rattle.aa_log.specs.Found.{is_wanted, wants_all, wanted, requests_in, skipped_in, others_in, left_in, left_out_of, distinct_in, AreFound, AreEach, IsReport}
 use Rattle.aa_log.proofs.Counting.{one_more}
 

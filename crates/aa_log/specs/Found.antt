@@ -1,6 +1,6 @@
 -- What logs hold, by their lines.
 -- Source: own.
-use Rattle.std.specs.Prelude.{ℕ, ◌≡◌, List, [], ◌∷◌, ◌&&◌, ◌==◌, ◌≤◌, length, map, flat_map, count_by, min, Bool, true, false, not, Option, Some, None, is_none, is_some, option_map, position, if◌then◌else◌}
+use Rattle.std.specs.Prelude.{ℕ, ◌≡◌, List, [], ◌∷◌, ◌&&◌, ◌==◌, ◌≤◌, length, map, flat_map, count_by, min, Bool, not, Option, Some, None, is_none, is_some, option_map, position, if◌then◌else◌}
 use Rattle.std.specs.List.{filter}
 use Rattle.std.specs.Option.{option_or}
 use Rattle.std.specs.Str.{bytes_eq}
@@ -21,6 +21,7 @@ use Rattle.aa_log.specs.declared.logging.Entry.{Entry}
 use Rattle.aa_log.specs.declared.logging.SkippedLines.{SkippedLines}
 use Rattle.aa_log.specs.declared.logging.LogReport.{LogReport}
 use Rattle.aa_logs.specs.LogLines.{LogLine}
+use Rattle.aa_messages.specs.Unclear.{is_another}
 use Rattle.aa_base.specs.declared.unread.Unread.{Unread}
 use Rattle.aa_base.specs.declared.unread.Unread.TheVariants.{NoMemory, TooLarge}
 use Rattle.aa_log.specs.Counted.{greatest, Counted, counted, firsts}
@@ -72,12 +73,6 @@ abbrev pub skipped_by : LogLine → Outcome → List Skipped
 skipped_by l Another = []
 skipped_by l (AsksNothing cause) = skipped_for cause (place_of l) ∷ []
 skipped_by l (AsksFor r) = []
-
--- the line isn't the access control's
-abbrev pub is_another : Outcome → Bool
-is_another Another = true
-is_another (AsksNothing cause) = false
-is_another (AsksFor r) = false
 
 -- it is of the profiles and of the time that are wanted
 abbrev pub is_wanted : Choice → List ℕ → Bool

@@ -4,7 +4,6 @@ ghost use Rattle.std.specs.Prelude.{◌≡◌, ℕ, ◌+◌, ◌<◌, ◌≤◌,
 ghost use Rattle.std.specs.HashMap.{get_by};
 ghost use Rattle.std.specs.Str.{bytes_eq};
 ghost use Rattle.aa_files.specs.Texts.{texts};
-ghost use Rattle.aa_notation.specs.Kinds.{word_text};
 ghost use Rattle.aa_log.specs.declared.logging.Entry.{Entry};
 ghost use Rattle.aa_log.specs.Counted.{Counted, greatest};
 ghost use Rattle.aa_log.specs.Found.{AddsKey, entry_key};
@@ -20,23 +19,13 @@ use crate::fault::PartFault;
 use crate::part::{PartRow, PartSkipped};
 use aa_log::{Entry, LinePlace, SkippedLines};
 use aa_logs::{Then, then_name};
-use aa_model::Request;
-use aa_notation::push_word;
+use aa_notation::word_of;
 use aa_text::{push_name, push_text};
 use std::alloc::{AllocError, Global};
 use std::collections::HashMap;
 
 /// The most distinct requests of all parts.
 const MAX_DISTINCT: usize = 1_000_000;
-
-/// A request as one word.
-fn word_of(alloc: Global, request: &Request) -> Result<Vec<u8>, AllocError>
-    ensures { IfOk result (λ word. word.items ≡ word_text request.now) }
-{
-    let mut word = Vec::new(alloc);
-    push_word(&mut word, request)?;
-    Ok(word)
-}
 
 /// A request as it is printed.
 #[tactic(auto, unfolding(aa_log::specs::Printed::key_text))]

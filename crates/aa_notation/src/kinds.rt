@@ -1,6 +1,6 @@
 //! What differs by the kind of a request: for each kind its word, written and read, and its item of a task's list.
 
-ghost use Rattle.std.specs.Prelude.{◌≡◌, ◌++◌, option_and_then, OnOk};
+ghost use Rattle.std.specs.Prelude.{◌≡◌, ◌++◌, option_and_then, IfOk, OnOk};
 ghost use Rattle.aa_notation.specs.Read.{hex_in, Reads};
 ghost use Rattle.aa_notation.specs.Kinds.{file_word, file_in, file_text, exec_word, exec_in, exec_text, link_word, link_in, link_text, cap_word, cap_in, net_word, net_in, net_text, change_word, change_in, reload_text, word_text, object_by, object_in, request_in, request_text, has_text};
 
@@ -206,6 +206,15 @@ pub fn push_word(out: &mut Vec<u8>, request: &Request) -> Result<(), AllocError>
         Request::Change(change) => push_change_word(out, change),
         Request::Reload(_) => push_text(out, "reload"),
     }
+}
+
+/// A request as one word.
+pub fn word_of(alloc: Global, request: &Request) -> Result<Vec<u8>, AllocError>
+    ensures { IfOk result (λ word. word.items ≡ word_text request.now) }
+{
+    let mut word = Vec::new(alloc);
+    push_word(&mut word, request)?;
+    Ok(word)
 }
 
 fn read_by(alloc: Global, letters: &[u8], text: &[u8], owned: bool) -> Result<Request, WordFault>

@@ -34,7 +34,7 @@ mod write;
 pub use job::{
     Include, JobPolicy, is_job_text, is_policy_count, left_out, policy_of, push_job_text,
 };
-pub use kinds::{push_word, read_word};
+pub use kinds::{push_word, read_word, word_of};
 pub use laws::words_are_read;
 pub use read::WordFault;
 pub use refused::word_refusal;

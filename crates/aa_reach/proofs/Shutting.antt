@@ -18,14 +18,14 @@ use Rattle.aa_skipping.specs.declared.unread.Unread.{Unread}
 use Rattle.aa_skipping.specs.Undecided.{undecided}
 use Rattle.aa_differences.specs.Openings.{is_open_in, is_open_label, ClosedLabels}
 use Rattle.aa_skipped.specs.declared.skipped.Skipped.{Skipped}
-use Rattle.aa_ask.specs.Naming.{count_of}
 use Rattle.aa_undecided.specs.Holding.{unreads}
 use Rattle.aa_reachability.specs.Beside.{one_doubts, is_doubted, number_of, is_sure, AreOpenings}
 use Rattle.aa_undecided.specs.declared.answered.SkippedAt.{SkippedAt}
 use Rattle.aa_undecided.specs.Answers.{placed_all}
 use Rattle.aa_reach.specs.declared.doubts.Doubt.{Doubt}
 use Rattle.aa_reach.specs.Names.{Name, name_in}
-use Rattle.aa_reach.specs.Doubts.{Doubted, doubted, doubted_if, opens, is_opened_in, is_opened, IsShut, label_numbered, AreOpened}
+use Rattle.aa_reach.specs.Doubts.{Doubted, doubted, doubted_if, is_opened_in, is_opened, IsShut, label_numbered, AreOpened, opens}
+use Rattle.aa_command.specs.Counts.{count_of}
 
 both_false : (a b : Bool) → (a || b) ≡ false → (a ≡ false) × (b ≡ false)
 both_false true b e = absurd (true≢false e)

@@ -33,7 +33,7 @@ use Rattle.aa_reachability.specs.Moves.{is_by_complain, label_kept, label_going,
 use Rattle.aa_reachability.specs.Reach.{IsOpen, PassBy, AreTold, led_by, way_at}
 use Rattle.aa_reachability.specs.Beside.{is_doubted, label_decided, label_taken, HoldAlong, IsSure}
 use Rattle.aa_reach.specs.Names.{Name, name_of}
-use Rattle.aa_reach.specs.Doubts.{opens, files_opening_in, files_opening, is_opened_in, is_opened, IsShut, IsDecided, IsTaken, Doubted, doubted_if, doubted_at}
+use Rattle.aa_reach.specs.Doubts.{files_opening, is_opened_in, is_opened, IsShut, IsDecided, IsTaken, Doubted, doubted_if, doubted_at, opens, files_opening_in}
 use Rattle.aa_reach.specs.Doubts.{doubted_of, is_reached_by, doubted_but}
 use Rattle.aa_reach.specs.Routes.{Routed, Barred, barred_but, AreFound, IsSearched, AreRoutes}
 use Rattle.aa_reach.specs.Holding.{label_there, IsSureThere, IsOneThere, AllCount, HoldsOf, HoldsThere, LabelsHold}

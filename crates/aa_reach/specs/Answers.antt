@@ -8,13 +8,13 @@ use Rattle.aa_model.specs.declared.policy.Profile.{Profile}
 use Rattle.aa_model.specs.declared.label.Label.{Label}
 use Rattle.aa_model.specs.declared.label.Label.TheVariants.{Unconfined, Confined}
 use Rattle.aa_compile.specs.Labels.{profile_in}
-use Rattle.aa_ask.specs.Naming.{count_of}
 use Rattle.aa_reach.specs.declared.answering.Answer.{Answer}
 use Rattle.aa_reach.specs.declared.graph.Vertex.{Vertex}
 use Rattle.aa_reach.specs.Names.{name_in, name_of, name_left_open}
 use Rattle.aa_skipped.specs.declared.skipped.Skipped.{Skipped}
 use Rattle.aa_reach.specs.Doubts.{Doubted, doubted, doubted_at, doubted_name}
 use Rattle.aa_reach.specs.Routes.{routed, barred, AreRoutes, AreEdges}
+use Rattle.aa_command.specs.Counts.{count_of}
 
 -- the answer for a label, where some labels may be asked for, and some by texts that are left open
 pub record IsAnswer (counts enforced : Bool) (policies : List Policy) (skipped : List Skipped) (limit : ℕ) (targets : Option (List Label)) (sought : List (List ℕ))

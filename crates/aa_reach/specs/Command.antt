@@ -2,13 +2,11 @@
 -- Source: own.
 use Rattle.std.specs.Prelude.{◌≡◌, ℕ, ◌+◌, ◌==◌, ◌⊎◌, ◌&&◌, ◌||◌, nat_lt, List, [], ◌++◌, length, map, flat_map, codes}
 use Rattle.std.specs.Prelude.{Bool, true, false, not, MatchBool, if◌then◌else◌, Option, Some, None, option_map, is_some}
-use Rattle.std.specs.Option.{option_map_or}
-use Rattle.std.specs.List.{AllZip, list_any, slice_get}
+use Rattle.std.specs.List.{AllZip, list_any}
 use Rattle.aa_model.specs.declared.policy.Policy.{Policy}
 use Rattle.aa_model.specs.declared.label.Label.{Label}
 use Rattle.aa_files.specs.Texts.{texts}
 use Rattle.aa_load.specs.UnitPolicy.{limit_of}
-use Rattle.aa_ask.specs.Naming.{count_of}
 use Rattle.aa_command.specs.declared.decided.Decided.{Decided}
 use Rattle.aa_command.specs.Setting.{Setting}
 use Rattle.aa_command.specs.Printed.{Printed, faults_alone}
@@ -26,10 +24,11 @@ use Rattle.aa_skipped.specs.declared.skipped.Skipped.{Skipped}
 use Rattle.aa_skipped.specs.Telling.{count_text}
 use Rattle.aa_skipped.specs.Policies.{IsPrintedOf}
 use Rattle.aa_undecided.specs.Answers.{placed}
-use Rattle.aa_reach.specs.Shown.{answer_text, passed_text, untold_text, is_reached, is_undecided}
+use Rattle.aa_reach.specs.Shown.{answer_text, untold_text, is_reached, is_undecided}
 use Rattle.aa_reach.specs.Json.{json_answers}
 use Rattle.aa_reach.specs.Dot.{dot_text, untold_edges}
 use Rattle.aa_reach.specs.Html.{html_page}
+use Rattle.aa_command.specs.Counts.{passed_text, count_of, passed_in}
 
 -- the text that names the labels that are asked for, if they are
 abbrev pub to_text : ReachOptions → Option (List ℕ)
@@ -38,10 +37,6 @@ to_text o = option_map (λ text. text.now) o.to
 -- how many labels there are: those of all profiles, and unconfined
 abbrev pub labels_in : List Policy → ℕ
 labels_in policies = count_of policies + 1
-
--- how many rules decide nothing
-abbrev pub passed_in : List Policy → ℕ
-passed_in policies = option_map_or (λ (p : Policy). length p.passed_over) (slice_get policies 0) 0
 
 -- the labels that are asked for, if some are: those that the text names, or the text itself, where it is left open
 abbrev pub AreTargets : List Policy → List Skipped → Option (List ℕ) → Option (List Label) → List (List ℕ) → Type 0

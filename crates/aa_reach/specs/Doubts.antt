@@ -5,13 +5,10 @@ use Rattle.std.specs.Prelude.{true, false, if◌then◌else◌}
 use Rattle.std.specs.Option.{option_map_or}
 use Rattle.std.specs.List.{list_any, slice_get}
 use Rattle.aa_model.specs.declared.policy.Policy.{Policy}
-use Rattle.aa_model.specs.declared.policy.Profile.{Profile}
 use Rattle.aa_model.specs.declared.label.Label.{Label}
 use Rattle.aa_model.specs.declared.label.Label.TheVariants.{Unconfined, Confined}
 use Rattle.aa_model.specs.declared.request.Request.{Request}
-use Rattle.aa_differences.specs.Openings.{is_open_label}
 use Rattle.aa_skipped.specs.declared.skipped.Skipped.{Skipped}
-use Rattle.aa_ask.specs.Naming.{count_of}
 use Rattle.aa_ask.specs.Told.{is_same}
 use Rattle.aa_undecided.specs.Answers.{PlacedFile, placed, placed_all}
 use Rattle.aa_undecided.specs.Holding.{unreads}
@@ -23,6 +20,8 @@ use Rattle.aa_reach.specs.declared.beside.Beside.{Beside}
 use Rattle.aa_reach.specs.declared.doubts.Doubt.{Doubt}
 use Rattle.aa_reach.specs.Heads.{may_hold}
 use Rattle.aa_reach.specs.Names.{Name, name_in, name_of, name_left_open}
+use Rattle.aa_differences.specs.Openings.{is_open_label}
+use Rattle.aa_model.specs.declared.policy.Profile.{Profile}
 
 -- a skipped file could change what is answered at a label: an execution or a change could lead into it
 abbrev pub opens : List Profile → Label → Skipped → Bool

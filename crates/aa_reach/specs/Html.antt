@@ -19,7 +19,8 @@ use Rattle.aa_reach.specs.Names.{Name, name_in, called}
 use Rattle.aa_reach.specs.Routes.{Turned, Routed, routed, Barred, barred}
 use Rattle.aa_skipped.specs.Telling.{count_text}
 use Rattle.aa_reach.specs.Doubts.{Doubted, doubted}
-use Rattle.aa_reach.specs.Shown.{turn_text, apart_words, not_told_words, is_known, is_undecided, at_least, passed_text}
+use Rattle.aa_reach.specs.Shown.{turn_text, apart_words, not_told_words, is_known, is_undecided, at_least}
+use Rattle.aa_command.specs.Counts.{passed_text}
 
 -- a request, and a mark where complain mode alone grants it
 unfoldable pub html_turn : Turned → List ℕ

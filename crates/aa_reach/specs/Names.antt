@@ -6,11 +6,12 @@ use Rattle.std.specs.Str.{bytes_eq}
 use Rattle.aa_base.specs.Values.{value}
 use Rattle.aa_model.specs.declared.policy.Policy.{Policy}
 use Rattle.aa_model.specs.declared.label.Label.{Label}
-use Rattle.aa_model.specs.declared.label.Label.TheVariants.{Unconfined, Confined}
+use Rattle.aa_model.specs.declared.label.Label.TheVariants.{Unconfined}
 use Rattle.aa_compile.specs.FileRules.{is_nil}
 use Rattle.aa_compile.specs.Labels.{label_name}
 use Rattle.aa_ask.specs.Asked.{no_profile}
 use Rattle.aa_ask.specs.Naming.{profiles_named}
+use Rattle.aa_ask.specs.Told.{is_confined}
 use Rattle.aa_skipped.specs.declared.skipped.Skipped.{Skipped}
 use Rattle.aa_reach.specs.declared.fault.NameFault.{NameFault}
 use Rattle.aa_reach.specs.declared.fault.NameFault.TheVariants.{NoMemory, Refused}
@@ -65,11 +66,6 @@ pub record Name : Type 0 where
 -- a name, without where it lies in memory
 abbrev pub name_in : Named → Name
 name_in n = record { label = n.label; confined = n.is_confined; text = n.name.items }
-
--- a task with that label is confined
-abbrev pub is_confined : Label → Bool
-is_confined (Unconfined k) = false
-is_confined (Confined k n) = true
 
 -- the name of a label
 abbrev pub name_of : List Policy → Label → Name

@@ -93,10 +93,6 @@ answer_text m a =
     flat_map (route_line m (name_in a.from)) (map routed a.routes.items) ++ flat_map (doubt_lines m (name_in a.from)) (map doubted a.doubts.items)
     ++ end_line m a ++ apart_text m a
 
--- how many rules decide nothing, where there are some
-abbrev pub passed_text : ℕ → List ℕ
-passed_text n = if n == 0 then [] else decimal n ++ codes " rules passed over\n"
-
 -- from which label it isn't told
 unfoldable pub bar_line : ℕ → Barred → List ℕ
 bar_line limit b = codes "error: at " ++ called b.at ++ codes " the rules " ++ why_text limit b.why

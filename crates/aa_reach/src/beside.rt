@@ -2,12 +2,12 @@
 
 ghost use Rattle.std.specs.Prelude.{◌≡◌, ◌+◌, IfOk};
 ghost use Rattle.std.specs.List.{list_any};
-ghost use Rattle.aa_ask.specs.Naming.{count_of};
 ghost use Rattle.aa_undecided.specs.Holding.{unreads};
 ghost use Rattle.aa_reachability.specs.Course.{unreads_of};
-ghost use Rattle.aa_reach.specs.Doubts.{opens, is_opened_in, is_opened, AreOpened};
+ghost use Rattle.aa_reach.specs.Doubts.{is_opened_in, is_opened, AreOpened};
+ghost use Rattle.aa_command.specs.Counts.{count_of};
 
-use aa_ask::count_of;
+use aa_command::count_of;
 use aa_compile::Compiled;
 use aa_differences::label_is_open;
 use aa_model::Label;

@@ -5,13 +5,13 @@ ghost use Rattle.std.specs.List.{list_any};
 ghost use Rattle.aa_files.specs.Texts.{texts};
 ghost use Rattle.aa_pattern.specs.Limits.{most_states};
 ghost use Rattle.aa_command.specs.Setting.{setting_of};
-ghost use Rattle.aa_command.specs.Printed.{printed, faults_alone};
-ghost use Rattle.aa_ask.specs.Naming.{count_of};
+ghost use Rattle.aa_command.specs.Printed.{printed};
 ghost use Rattle.aa_undecided.specs.Answers.{placed};
 ghost use Rattle.aa_reach.specs.Doubts.{IsBeside};
 ghost use Rattle.aa_reach.specs.Shown.{is_reached, is_undecided};
 ghost use Rattle.aa_reach.specs.Json.{json_answers};
-ghost use Rattle.aa_reach.specs.Command.{to_text, beginnings, leaves_open, labels_in, passed_in, AreTargets, SaysNoTarget, SaysUnnamed, manner_of, told_text, answers_text, is_open_vertex, status_of, has_found, reach_printed, graph_printed, page_printed, IsAsked, AreAllAnswers, IsAnswered, IsGraphed, IsPaged, asks_nothing, IsReachOf, IsReachOutput};
+ghost use Rattle.aa_reach.specs.Command.{to_text, beginnings, leaves_open, labels_in, AreTargets, SaysNoTarget, SaysUnnamed, manner_of, told_text, answers_text, is_open_vertex, status_of, has_found, reach_printed, graph_printed, page_printed, IsAsked, AreAllAnswers, IsAnswered, IsGraphed, IsPaged, asks_nothing, IsReachOf, IsReachOutput};
+ghost use Rattle.aa_command.specs.Counts.{passed_in, count_of};
 
 use crate::answering::{Answer, answers_from, limit_of, open_answers};
 use crate::beside::{Beside, openings_of, unreads_of};
@@ -21,9 +21,11 @@ use crate::graph::{Vertex, vertices_of};
 use crate::html::push_page;
 use crate::json::push_json_answers;
 use crate::naming::{Names, names_by, names_of};
-use crate::shown::{Manner, is_reached, is_undecided, push_answers, push_passed, push_untold};
-use aa_ask::count_of;
-use aa_command::{Decided, Output, Settings, Use, refused, with_policy};
+use crate::shown::{Manner, is_reached, is_undecided, push_answers, push_untold};
+use aa_command::{
+    Decided, Output, Settings, Use, count_of, passed_in, push_passed, refused, unanswered,
+    with_policy,
+};
 use aa_compile::{Compiled, Label};
 use aa_differences::closed_labels_are_decided;
 use aa_files::Tree;
@@ -136,16 +138,6 @@ fn labels_in(policies: &[Compiled]) -> usize
     ensures { result ≡ labels_in policies.now }
 {
     count_of(policies) as usize + 1
-}
-
-/// How many rules decide nothing.
-fn passed_in(policies: &[Compiled]) -> usize
-    ensures { result ≡ passed_in policies.now }
-{
-    match policies.get(0) {
-        Some(compiled) => compiled.policy().passed_over.as_slice().len(),
-        None => 0,
-    }
 }
 
 fn manner_of(
@@ -538,16 +530,6 @@ fn asks_nothing(options: &ReachOptions<'_>) -> bool
     ensures { result ≡ asks_nothing options.now }
 {
     options.from.is_empty() && !options.is_dot && !options.is_html
-}
-
-/// Says a line in place of the answers.
-fn unanswered(alloc: Global, line: Vec<u8>) -> Output
-    ensures { printed result ≡ faults_alone line.items 1 }
-{
-    let mut output = Output::new(alloc);
-    output.faults = line;
-    output.status = 1;
-    output
 }
 
 /// Tells by the policy of files to which labels a task can get.

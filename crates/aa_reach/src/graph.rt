@@ -18,7 +18,7 @@ use crate::naming::name_of;
 use crate::parts::{Told, bar_at, none_told};
 use crate::routes::routes_to;
 use crate::searching::{Near, near_from};
-use aa_ask::count_of;
+use aa_command::count_of;
 use aa_compile::{Compiled, profile_of};
 use aa_model::Label;
 use aa_reachability::{Arrival, Going, Why, are_clean};

@@ -18,8 +18,9 @@ use crate::parts::{Bar, Told};
 use crate::routes::{Route, Turn};
 use crate::shown::{
     Manner, is_known, is_undecided, push_apart_words, push_at_least, push_complain, push_not_told,
-    push_passed, push_turns,
+    push_turns,
 };
+use aa_command::push_passed;
 use aa_model::Label;
 use aa_page::{
     push_code, push_drawing_end, push_drawing_start, push_edge, push_line_end, push_list_end,

@@ -3,11 +3,11 @@
 ghost use Rattle.std.specs.Prelude.{◌≡◌, ◌++◌, ◌∷◌, [], IfOk, IfErr, OnOk};
 ghost use Rattle.aa_files.specs.Texts.{texts};
 ghost use Rattle.aa_ask.specs.Asked.{no_profile};
-ghost use Rattle.aa_reach.specs.Names.{labels_named, IsNamed, AreNamed, SaysNone, SaysOne, name_in, name_of, name_left_open, is_confined, called};
+ghost use Rattle.aa_reach.specs.Names.{labels_named, IsNamed, AreNamed, SaysNone, SaysOne, name_in, name_of, name_left_open, called};
 
 use crate::fault::NameFault;
 use crate::heads::one_may_hold;
-use aa_ask::profiles_named;
+use aa_ask::{is_confined, profiles_named};
 use aa_compile::{Compiled, name_of_label};
 use aa_model::Label;
 use aa_skipped::Skipped;
@@ -107,12 +107,6 @@ pub(crate) struct Named {
     pub(crate) is_confined: bool,
     /// The full name of its profile, or `unconfined`.
     pub(crate) name: Vec<u8>,
-}
-
-fn is_confined(label: Label) -> bool
-    ensures { result ≡ is_confined label }
-{
-    matches!(label, Label::Confined(_, _))
 }
 
 /// What a label is called.

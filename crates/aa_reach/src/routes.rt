@@ -4,7 +4,6 @@ ghost use Rattle.std.specs.Prelude.{◌≡◌, ◌++◌, ◌<◌, List, map, opt
 ghost use Rattle.std.specs.List.{list_any, slice_get};
 ghost use Rattle.aa_model.specs.declared.label.Label.{Label};
 ghost use Rattle.aa_model.specs.declared.request.Request.{Request};
-ghost use Rattle.aa_notation.specs.Kinds.{word_text};
 ghost use Rattle.aa_ask.specs.Told.{is_same};
 ghost use Rattle.aa_reachability.specs.Reach.{HaveWays, way_at};
 ghost use Rattle.aa_reach.specs.Names.{name_of};
@@ -16,7 +15,7 @@ use crate::naming::{Named, name_of};
 use aa_ask::is_same;
 use aa_compile::Compiled;
 use aa_model::{Answer, Label, Request};
-use aa_notation::push_word;
+use aa_notation::word_of;
 use aa_reachability::{Arrival, Going, Step, answer_of, complains_by, is_by_complain};
 use std::alloc::{AllocError, Global};
 use std::rc::Rc;
@@ -44,14 +43,6 @@ impl Turn {
 pub(crate) struct Route {
     pub(crate) to: Named,
     pub(crate) turns: Vec<Turn>,
-}
-
-fn word_of(alloc: Global, request: &Request) -> Result<Vec<u8>, AllocError>
-    ensures { IfOk result (λ word. word.items ≡ word_text request.now) }
-{
-    let mut word = Vec::new(alloc);
-    push_word(&mut word, request)?;
-    Ok(word)
 }
 
 /// To execute a file of others, where it is one of the task's user's; all else as it is.

@@ -5,7 +5,7 @@ ghost use Rattle.aa_ask.specs.Shown.{complain_mark};
 ghost use Rattle.aa_reach.specs.Names.{name_in, called};
 ghost use Rattle.aa_reach.specs.Routes.{turned, routed, barred};
 ghost use Rattle.aa_reach.specs.Doubts.{doubted};
-ghost use Rattle.aa_reach.specs.Shown.{turn_text, from_mark, route_line, apart_words, not_told_words, apart_line, doubt_lines, why_text, apart_bar_line, apart_doubt_lines, apart_text, is_known, is_undecided, none_line, at_least, labels_line, count_line, end_line, answer_text, passed_text, bar_line, untold_text, is_reached};
+ghost use Rattle.aa_reach.specs.Shown.{turn_text, from_mark, route_line, apart_words, not_told_words, apart_line, doubt_lines, why_text, apart_bar_line, apart_doubt_lines, apart_text, is_known, is_undecided, none_line, at_least, labels_line, count_line, end_line, answer_text, bar_line, untold_text, is_reached};
 
 use crate::answering::Answer;
 use crate::doubts::Doubt;
@@ -405,17 +405,6 @@ pub(crate) fn push_answers(
         push_answer(out, alloc, manner, answer)?;
     }
     Ok(())
-}
-
-/// Appends how many rules decide nothing, where there are some.
-pub(crate) fn push_passed(out: &mut Vec<u8>, count: usize) -> Result<(), AllocError>
-    ensures { OnOk result (out.new.items ≡ out.old.items ++ passed_text count) }
-{
-    if count == 0 {
-        return Ok(());
-    }
-    push_number(out, count)?;
-    push_text(out, " rules passed over\n")
 }
 
 /// Appends from which label it isn't told where requests lead on.

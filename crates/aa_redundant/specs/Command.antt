@@ -2,7 +2,6 @@
 -- Source: own.
 use Rattle.std.specs.Prelude.{◌≡◌, ℕ, ◌==◌, List, [], ◌++◌, length, Bool, Some, slice_get, Option, None, option_map, Err, Contains, MatchBool, if◌then◌else◌}
 use Rattle.std.specs.List.{All}
-use Rattle.std.specs.Option.{option_map_or}
 use Rattle.aa_base.specs.declared.unread.Unread.{Unread}
 use Rattle.aa_files.specs.Texts.{texts}
 use Rattle.aa_files.specs.FilesData.{IsMain, IsMainText}
@@ -38,8 +37,10 @@ use Rattle.aa_redundant.specs.Places.{all_places, all_numbers}
 use Rattle.aa_redundant.specs.Leading.{AreOpen}
 use Rattle.aa_redundant.specs.Told.{Telling, Explained, rules_of, all_explained, all_undecided}
 use Rattle.aa_redundant.specs.Accepted.{held, unknown, gone_among}
-use Rattle.aa_redundant.specs.Untold.{Untelling, all_untold, untold_lines}
+use Rattle.aa_command.specs.Untold.{Untelling, untold_lines}
+use Rattle.aa_redundant.specs.Untold.{all_untold}
 use Rattle.aa_redundant.specs.Forms.{answers_in}
+use Rattle.aa_command.specs.Counts.{passed_in}
 
 -- nothing changes for any profile when the rules of some places go; of profiles that can't be told none goes
 abbrev pub Spares : Decided → List UntoldProfile → (ℕ → Bool) → Type 0
@@ -85,10 +86,6 @@ rules_printed form passed lines skipped found untold undecided going = record {
   refusal = [];
   status = status_of untold (unknown lines found) skipped;
 }
-
--- how many rules of the policy decide nothing
-abbrev pub passed_in : List Policy → ℕ
-passed_in policies = option_map_or (λ (p : Policy). length p.passed_over) (slice_get policies 0) 0
 
 -- the rules of the places that can go, but for those that are open
 abbrev pub redundant_printed : Form → List (List ℕ) → List Skipped → List Bool → Decided → Redundant → Printed

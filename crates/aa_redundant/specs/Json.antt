@@ -3,7 +3,7 @@
 use Rattle.std.specs.Prelude.{ℕ, List, ◌++◌, map, codes, decimal, Some, Bool, if◌then◌else◌}
 use Rattle.aa_text.specs.Jsons.{json_bytes, json_place, key_text, member_text, list_text}
 use Rattle.aa_redundant.specs.Told.{Telling, Explained}
-use Rattle.aa_redundant.specs.Untold.{Untelling}
+use Rattle.aa_command.specs.Untold.{Untelling, json_untold}
 
 -- where a rule stands, and how it reads
 unfoldable pub json_told : Telling → List ℕ
@@ -20,10 +20,6 @@ reason_key is_covered = if is_covered then codes "covered_by" else codes "overru
 -- a redundant rule, and beside which others
 unfoldable pub json_explained : Explained → List ℕ
 json_explained e = json_told e.rule ++ member_text (reason_key e.is_covered) (list_text (map json_rule e.others)) ++ codes "}"
-
--- the name of a profile of which it can't be told
-abbrev pub json_untold : Untelling → List ℕ
-json_untold u = json_bytes u.profile
 
 -- those that can go by themselves, those that can go together, and those that may lead to profiles of skipped files
 unfoldable pub json_listed : List Explained → List Telling → List Telling → List ℕ

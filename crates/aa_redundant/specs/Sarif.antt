@@ -1,11 +1,11 @@
 -- Redundant rules as a SARIF log.
 -- Source: SARIF 2.1.0, sections 3.14, 3.20, 3.27; own.
-use Rattle.std.specs.Prelude.{ℕ, ◌==◌, List, ◌++◌, length, map, codes, Some}
+use Rattle.std.specs.Prelude.{ℕ, List, ◌++◌, map, codes, Some}
 use Rattle.aa_text.specs.Jsons.{member_text, list_text}
-use Rattle.aa_check.specs.declared.sarif.Level.TheVariants.{Error, Warning}
-use Rattle.aa_check.specs.Sarif.{message_text, location_text, rule_members, notification_text, invocations_text, sarif_head}
+use Rattle.aa_check.specs.declared.sarif.Level.TheVariants.{Warning}
+use Rattle.aa_check.specs.Sarif.{message_text, location_text, rule_members, run_member, sarif_head}
 use Rattle.aa_redundant.specs.Told.{Explained}
-use Rattle.aa_redundant.specs.Untold.{Untelling}
+use Rattle.aa_command.specs.Untold.{Untelling}
 use Rattle.aa_redundant.specs.Shown.{finding_text}
 
 -- a redundant rule, with its place
@@ -17,14 +17,6 @@ result_text e =
 -- those that can go by themselves
 abbrev pub results_member : List Explained → List ℕ
 results_member redundant = member_text (codes "results") (list_text (map result_text redundant))
-
--- a profile of which it can't be told
-abbrev pub note_text : Untelling → List ℕ
-note_text u = notification_text Error u.text
-
--- how the run went: it didn't look at all where of a profile it can't be told
-abbrev pub run_member : List Untelling → List ℕ
-run_member untold = member_text (codes "invocations") (invocations_text (length untold == 0) (map note_text untold))
 
 -- the one object
 abbrev pub sarif_rules : List Explained → List Untelling → List ℕ

@@ -62,10 +62,6 @@ gcc_lines redundant = flat_map gcc_line redundant
 abbrev pub undecided_lines : Telling → List ℕ
 undecided_lines t = rule_line (codes "undecided") t ++ codes "    may lead to a profile of a skipped file\n"
 
--- how many rules decide nothing, where there are some
-abbrev pub passed_text : ℕ → List ℕ
-passed_text n = if n == 0 then [] else decimal n ++ codes " rules passed over\n"
-
 -- each that can go by itself with why, those that may lead to profiles of skipped files, those that can go together, and how many can
 abbrev pub rules_text : List Explained → List Telling → List Telling → List ℕ
 rules_text redundant undecided going =

@@ -3,9 +3,9 @@
 use Rattle.std.specs.Prelude.{ℕ, List, [], ◌∷◌, map, flat_map, Bool, not, Option, Some, None, slice_get, if◌then◌else◌}
 use Rattle.std.specs.Option.{option_map_or}
 use Rattle.aa_base.specs.declared.fault.Spot.{Spot}
-use Rattle.aa_text.specs.Places.{place_in}
 use Rattle.aa_text.specs.declared.position.PlaceAt.{PlaceAt}
 use Rattle.aa_files.specs.declared.unit.Unit as unit
+use Rattle.aa_files.specs.Links.{stands_at}
 use Rattle.aa_files.specs.Numbers.{path_in, text_in}
 use Rattle.aa_rule_text.specs.RuleTexts.{rule_text}
 use Rattle.aa_redundancy.specs.declared.reasons.Reason.{Reason}
@@ -23,10 +23,6 @@ pub record Telling : Type 0 where
 -- the same without where it lies in memory
 abbrev pub telling : ToldRule → Telling
 telling t = record { path = t.path.items; place = t.place; text = t.text.items }
-
--- a byte of a text with its line and column
-abbrev pub stands_at : List ℕ → ℕ → PlaceAt
-stands_at text byte = record { line = (place_in text byte).line; column = (place_in text byte).column; byte = byte }
 
 -- the rule that stands there in a unit
 abbrev pub rule_at : Spot → unit.Unit → Telling

@@ -6,16 +6,7 @@ use Rattle.aa_model.specs.declared.policy.Profile.{Profile}
 use Rattle.aa_redundancy.specs.declared.fault.Excess.{Excess}
 use Rattle.aa_redundancy.specs.declared.fault.Excess.TheVariants.{Patterns, States}
 use Rattle.aa_redundancy.specs.declared.fault.UntoldProfile.{UntoldProfile}
-use Rattle.aa_redundant.specs.declared.untold.Untold.{Untold}
-
--- its full name, and what is said of it
-pub record Untelling : Type 0 where
-  pub profile : List ℕ
-  pub text : List ℕ
-
--- the same of what the code keeps
-abbrev pub untelling : Untold → Untelling
-untelling u = record { profile = u.profile.items; text = u.text.items }
+use Rattle.aa_command.specs.Untold.{Untelling}
 
 -- why it can't be told
 abbrev pub why_of : Excess → List ℕ
@@ -42,11 +33,3 @@ untold_at ps u = untold_if u.why (slice_get ps u.number)
 -- all of them
 abbrev pub all_untold : List Profile → List UntoldProfile → List Untelling
 all_untold ps us = flat_map (untold_at ps) us
-
--- as an error, in a line
-unfoldable pub untold_line : Untelling → List ℕ
-untold_line u = codes "error: " ++ u.text ++ codes "\n"
-
--- a line for each
-abbrev pub untold_lines : List Untelling → List ℕ
-untold_lines all = flat_map untold_line all

@@ -15,10 +15,11 @@ ghost use Rattle.aa_redundancy.specs.Reasons.{AreReasons};
 ghost use Rattle.aa_redundant.specs.Places.{all_places, all_numbers};
 ghost use Rattle.aa_redundant.specs.Leading.{AreOpen};
 ghost use Rattle.aa_redundant.specs.Told.{telling, explaining};
-ghost use Rattle.aa_redundant.specs.Untold.{untelling, untold_lines};
+ghost use Rattle.aa_command.specs.Untold.{untelling, untold_lines};
 ghost use Rattle.aa_redundant.specs.Accepted.{gone_among};
 ghost use Rattle.aa_report.specs.Lines.{lines_in};
-ghost use Rattle.aa_redundant.specs.Command.{Spares, OfProfiles, status_by, status_of, rules_printed, passed_in, redundant_printed, IsRedundantOf, IsRedundantBut, IsRedundantBy, IsRedundantOutput};
+ghost use Rattle.aa_redundant.specs.Command.{Spares, OfProfiles, status_by, status_of, rules_printed, redundant_printed, IsRedundantOf, IsRedundantBut, IsRedundantBy, IsRedundantOutput};
+ghost use Rattle.aa_command.specs.Counts.{passed_in};
 
 use crate::accepted::{held, push_gone_among, unknown_of};
 use crate::explained::{ExplainedRule, all_explained, all_undecided};
@@ -28,10 +29,12 @@ use crate::leading::open_places;
 use crate::numbers::all_numbers;
 use crate::places::{RulePlace, rule_places};
 use crate::told::{ToldRule, rules_of};
-use crate::untold::{Untold, all_untold, push_untold_lines};
+use crate::untold::all_untold;
 use aa_check::Form;
-use aa_command::{Decided, Output, Settings, Use, path_refused, with_policy};
-use aa_compile::{Compiled, first_profiles};
+use aa_command::{
+    Decided, Output, Settings, Untold, Use, passed_in, path_refused, push_untold_lines, with_policy,
+};
+use aa_compile::first_profiles;
 use aa_files::{Tree, main_text};
 use aa_redundancy::{
     PlaceNumbers, Redundant, marks_of_places, redundant_places, rules_beside_none_match_nothing,
@@ -155,16 +158,6 @@ fn rules_printed(
     )?;
     output.status = status_of(untold, left.as_slice(), skipped);
     Ok(output)
-}
-
-/// How many rules of the policy decide nothing.
-fn passed_in(policies: &[Compiled]) -> usize
-    ensures { result ≡ passed_in policies.now }
-{
-    match policies.get(0) {
-        Some(compiled) => compiled.policy().passed_over.as_slice().len(),
-        None => 0,
-    }
 }
 
 /// Prints the rules of the places that can go, and why, but for those that are open.

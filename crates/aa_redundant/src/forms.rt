@@ -3,17 +3,18 @@
 ghost use Rattle.std.specs.Prelude.{◌≡◌, ◌++◌, map, OnOk};
 ghost use Rattle.aa_skipped.specs.Telling.{count_text};
 ghost use Rattle.aa_redundant.specs.Told.{telling, explaining};
-ghost use Rattle.aa_redundant.specs.Untold.{untelling};
-ghost use Rattle.aa_redundant.specs.Shown.{rules_text, passed_text};
+ghost use Rattle.aa_command.specs.Untold.{untelling};
+ghost use Rattle.aa_redundant.specs.Shown.{rules_text};
 ghost use Rattle.aa_redundant.specs.Forms.{answers_in};
+ghost use Rattle.aa_command.specs.Counts.{passed_text};
 
 use crate::explained::ExplainedRule;
 use crate::json::push_json_rules;
 use crate::sarif::push_sarif_rules;
-use crate::shown::{push_gcc_lines, push_passed, push_rules};
+use crate::shown::{push_gcc_lines, push_rules};
 use crate::told::ToldRule;
-use crate::untold::Untold;
 use aa_check::Form;
+use aa_command::{Untold, push_passed};
 use aa_skipped::push_skipped_count;
 use std::alloc::{AllocError, Global};
 

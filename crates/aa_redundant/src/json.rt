@@ -3,15 +3,14 @@
 ghost use Rattle.std.specs.Prelude.{◌≡◌, ◌++◌, codes, map, OnOk};
 ghost use Rattle.aa_text.specs.Jsons.{key_text, member_text, list_text};
 ghost use Rattle.aa_redundant.specs.Told.{telling, explaining};
-ghost use Rattle.aa_redundant.specs.Untold.{untelling};
-ghost use Rattle.aa_redundant.specs.Json.{json_told, json_rule, reason_key, json_explained, json_untold, json_listed, json_counts, json_rules};
+ghost use Rattle.aa_command.specs.Untold.{untelling};
+ghost use Rattle.aa_redundant.specs.Json.{json_told, json_rule, reason_key, json_explained, json_listed, json_counts, json_rules};
 
 use crate::explained::ExplainedRule;
 use crate::told::ToldRule;
-use crate::untold::Untold;
+use aa_command::{Untold, push_untold_member};
 use aa_text::{
-    ToJson, push_json_bytes, push_json_place, push_key, push_list, push_list_member, push_member,
-    push_text,
+    ToJson, push_json_place, push_key, push_list, push_list_member, push_member, push_text,
 };
 use std::alloc::{AllocError, Global};
 
@@ -94,25 +93,6 @@ fn push_explained(
     Ok(())
 }
 
-impl ToJson for Untold {
-    ghost use Rattle.aa_redundant.specs.Untold.{untelling};
-    ghost use Rattle.aa_redundant.specs.Json.{json_untold};
-
-    ghost json = { λ untold. json_untold (untelling untold) };
-
-    fn push_json(&self, out: &mut Vec<u8>, alloc: Global) -> Result<(), AllocError> {
-        push_json_bytes(out, alloc, self.profile.as_slice())
-    }
-}
-
-/// Appends the profiles of which it can't be told, as a member.
-fn push_untold(out: &mut Vec<u8>, alloc: Global, untold: &[Untold]) -> Result<(), AllocError>
-    ensures { OnOk result (out.new.items ≡ out.old.items ++ member_text (codes "untold") (list_text (map json_untold (map untelling untold.now)))) }
-{
-    push_list_member(out, alloc, "untold", untold)?;
-    Ok(())
-}
-
 /// Appends the rules that can go by themselves, those that can go together, and those that may lead to profiles of skipped files.
 #[tactic(auto, unfolding(crate::specs::Json::json_listed))]
 fn push_listed(
@@ -160,7 +140,7 @@ pub(crate) fn push_json_rules(
     ensures { OnOk result (out.new.items ≡ out.old.items ++ json_rules passed skipped (map explaining redundant.now) (map untelling untold.now) (map telling undecided.now) (map telling going.now)) }
 {
     push_listed(out, alloc, redundant, undecided, going)?;
-    push_untold(out, alloc, untold)?;
+    push_untold_member(out, alloc, untold)?;
     push_counts(out, alloc, passed, skipped)?;
     push_text(out, "}\n")
 }

@@ -2,7 +2,7 @@
 
 ghost use Rattle.std.specs.Prelude.{◌≡◌, ◌++◌, map, flat_map, OnOk};
 ghost use Rattle.aa_redundant.specs.Told.{telling, explaining};
-ghost use Rattle.aa_redundant.specs.Shown.{line_by, rule_line, line_of, other_line, reason_word, reason_lines, explained_lines, count_line, further_place, why_text, finding_text, gcc_line, gcc_lines, undecided_lines, passed_text, rules_text};
+ghost use Rattle.aa_redundant.specs.Shown.{line_by, rule_line, line_of, other_line, reason_word, reason_lines, explained_lines, count_line, further_place, why_text, finding_text, gcc_line, gcc_lines, undecided_lines, rules_text};
 
 use crate::explained::ExplainedRule;
 use crate::told::ToldRule;
@@ -210,15 +210,4 @@ pub(crate) fn push_rules(
     push_each_undecided(out, undecided)?;
     push_each(out, "may go", going)?;
     push_count(out, redundant.len(), going.len())
-}
-
-/// Appends how many rules decide nothing, where there are some.
-pub(crate) fn push_passed(out: &mut Vec<u8>, count: usize) -> Result<(), AllocError>
-    ensures { OnOk result (out.new.items ≡ out.old.items ++ passed_text count) }
-{
-    if count == 0 {
-        return Ok(());
-    }
-    push_number(out, count)?;
-    push_text(out, " rules passed over\n")
 }

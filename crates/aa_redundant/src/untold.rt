@@ -1,21 +1,14 @@
 //! Profiles of which it can't be told which rules are redundant.
 
 ghost use Rattle.std.specs.Prelude.{◌≡◌, ◌++◌, IfOk, OnOk, map, flat_map};
-ghost use Rattle.aa_redundant.specs.Untold.{untelling, why_of, untold_text, untold_of, untold_at, all_untold, untold_line, untold_lines};
+ghost use Rattle.aa_command.specs.Untold.{untelling};
+ghost use Rattle.aa_redundant.specs.Untold.{why_of, untold_text, untold_of, untold_at, all_untold};
 
+use aa_command::Untold;
 use aa_model::Profile;
 use aa_redundancy::{Excess, UntoldProfile};
 use aa_text::{push_name, push_text};
 use std::alloc::{AllocError, Global};
-
-/// A profile of which it can't be told which rules are redundant.
-#[derive(Drop)]
-pub(crate) struct Untold {
-    /// Its full name.
-    pub(crate) profile: Vec<u8>,
-    /// Of what it can't be told, and why.
-    pub(crate) text: Vec<u8>,
-}
 
 fn why_of(excess: Excess) -> &'static str
     ensures { result.now ≡ why_of excess }
@@ -85,23 +78,4 @@ pub(crate) fn all_untold(
         push_untold_at(&mut all, alloc, profiles, *one)?;
     }
     Ok(all)
-}
-
-#[tactic(auto, unfolding(crate::specs::Untold::untold_line))]
-fn push_line(out: &mut Vec<u8>, untold: &Untold) -> Result<(), AllocError>
-    ensures { OnOk result (out.new.items ≡ out.old.items ++ untold_line (untelling untold.now)) }
-{
-    push_text(out, "error: ")?;
-    out.extend_from_slice(untold.text.as_slice())?;
-    push_text(out, "\n")
-}
-
-/// Appends a line for each of them.
-pub(crate) fn push_untold_lines(out: &mut Vec<u8>, all: &[Untold]) -> Result<(), AllocError>
-    ensures { OnOk result (out.new.items ≡ out.old.items ++ untold_lines (map untelling all.now)) }
-{
-    for untold in all {
-        push_line(out, untold)?;
-    }
-    Ok(())
 }

@@ -1,5 +1,6 @@
 pub use Rattle.aa_skipping.specs.Laws
 pub mod Answers
+pub mod Named
 pub mod Holding
 pub mod Shown
 pub mod Jsons

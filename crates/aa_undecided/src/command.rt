@@ -4,7 +4,7 @@ ghost use Rattle.std.specs.Prelude.{◌≡◌, ◌≤◌, ◌++◌, map, vec_len
 ghost use Rattle.std.specs.List.{list_any};
 ghost use Rattle.aa_files.specs.Texts.{texts};
 ghost use Rattle.aa_command.specs.Setting.{setting_of};
-ghost use Rattle.aa_command.specs.Printed.{printed, faults_alone};
+ghost use Rattle.aa_command.specs.Printed.{printed};
 ghost use Rattle.aa_ask.specs.Command.{IsAskedBehind, IsAskedFrom};
 ghost use Rattle.aa_ask.specs.Unattached.{opening_warning};
 ghost use Rattle.aa_undecided.specs.Answers.{placed_all, answered, files_opening};
@@ -18,7 +18,7 @@ use crate::shown::push_answers;
 use aa_ask::{
     AskFault, AskOptions, MAX_WORDS, many_refused, opening_warning, push_words, words_refused,
 };
-use aa_command::{Decided, Output, Settings, refused};
+use aa_command::{Decided, Output, Settings, refused, unanswered};
 use aa_files::{Tree, main_text};
 use aa_skipped::{Skipped, UsePart, with_read_policy};
 use aa_text::NoMemory;
@@ -109,16 +109,6 @@ fn shown(
     output.faults = warning;
     output.status = status_of(answers);
     Ok(output)
-}
-
-/// Says a line in place of the answers.
-fn unanswered(alloc: Global, line: Vec<u8>) -> Output
-    ensures { printed result ≡ faults_alone line.items 1 }
-{
-    let mut output = Output::new(alloc);
-    output.faults = line;
-    output.status = 1;
-    output
 }
 
 /// What is warned of, unless it isn't known for these files under which label is asked.

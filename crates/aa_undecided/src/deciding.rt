@@ -11,7 +11,7 @@ use aa_ask::decide;
 use aa_command::Decided;
 use aa_compile::Compiled;
 use aa_model::{Label, Request};
-use aa_notation::push_word;
+use aa_notation::word_of;
 use aa_skipped::Skipped;
 use aa_skipping::is_undecided;
 use std::alloc::{AllocError, Global};
@@ -99,14 +99,6 @@ pub fn files_deciding(
         Some(compiled) => files_among(alloc, skipped, label, request, compiled),
         None => Ok(Vec::new(alloc)),
     }
-}
-
-fn word_of(alloc: Global, request: &Request) -> Result<Vec<u8>, AllocError>
-    ensures { IfOk result (λ word. word.items ≡ word_text request.now) }
-{
-    let mut word = Vec::new(alloc);
-    push_word(&mut word, request)?;
-    Ok(word)
 }
 
 /// A request that is undecided by these files.

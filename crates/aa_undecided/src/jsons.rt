@@ -1,24 +1,17 @@
 //! Answers as they are printed in JSON.
 
 ghost use Rattle.std.specs.Prelude.{◌≡◌, ◌++◌, codes, map, OnOk};
-ghost use Rattle.aa_text.specs.Jsons.{json_bytes, key_text, member_text, list_text};
+ghost use Rattle.aa_text.specs.Jsons.{member_text, list_text};
 ghost use Rattle.aa_undecided.specs.Answers.{placed_all, answered};
 ghost use Rattle.aa_undecided.specs.Jsons.{json_placed, json_doubt, json_of, json_answers};
 
 use crate::answered::{Answered, Doubt, SkippedAt};
+use aa_ask::push_request;
 use aa_text::{
     ToJson, push_comma, push_json_bytes, push_json_place, push_key, push_list, push_list_member,
     push_next_key, push_text,
 };
 use std::alloc::{AllocError, Global};
-
-fn push_request(out: &mut Vec<u8>, alloc: Global, word: &[u8]) -> Result<(), AllocError>
-    ensures { OnOk result (out.new.items ≡ out.old.items ++ (codes "{" ++ (key_text (codes "request") ++ json_bytes word.now))) }
-{
-    push_text(out, "{")?;
-    push_key(out, "request")?;
-    push_json_bytes(out, alloc, word)
-}
 
 #[tactic(auto, unfolding(aa_text::specs::Jsons::member_text))]
 fn push_not_known(out: &mut Vec<u8>) -> Result<(), AllocError>

@@ -30,9 +30,13 @@ fn push_place(out: &mut Vec<u8>, at: &[u8], place: Option<PlaceAt>) -> Result<()
     }
 }
 
-/// Appends where a file is refused.
+/// Appends where a file is refused: the path of the file that its fault is in, and the place in it, if it has one.
 #[tactic(auto, unfolding(crate::specs::Shown::refused_at))]
-fn push_refused_at(out: &mut Vec<u8>, at: &[u8], place: Option<PlaceAt>) -> Result<(), AllocError>
+pub fn push_refused_at(
+    out: &mut Vec<u8>,
+    at: &[u8],
+    place: Option<PlaceAt>,
+) -> Result<(), AllocError>
     ensures { OnOk result (out.new.items ≡ out.old.items ++ refused_at at.now place) }
 {
     push_text(out, ", refused at ")?;

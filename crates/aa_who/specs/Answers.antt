@@ -15,7 +15,8 @@ use Rattle.aa_who.specs.declared.answering.WordAnswer.{WordAnswer}
 use Rattle.aa_who.specs.Words.{IsRead, SaysMisread, IsMisreadLine, no_path}
 use Rattle.aa_who.specs.Untold.{Untold}
 use Rattle.aa_who.specs.Counts.{IsCounted, all_told, untold_of}
-use Rattle.aa_who.specs.Grants.{Granted, AllGranted, all_granted, count_of, AreGrants}
+use Rattle.aa_who.specs.Grants.{Granted, AllGranted, all_granted, AreGrants}
+use Rattle.aa_command.specs.Counts.{count_of}
 
 -- who is granted what a word asks: which profiles, of how many, which at unclean paths alone, and whether a task without a profile is granted all of it; and the profiles
 -- of which it can't be told, with the line on such a task where it can't be told of it

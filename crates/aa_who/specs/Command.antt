@@ -1,9 +1,7 @@
 -- What `who` prints.
 -- Source: own.
 use Rattle.std.specs.Prelude.{◌≡◌, ℕ, ◌==◌, ◌<◌, ◌≤◌, List, [], ◌++◌, length, map, flat_map, codes, Bool, MatchBool, if◌then◌else◌}
-use Rattle.std.specs.List.{list_any, slice_get}
-use Rattle.std.specs.Option.{option_map_or}
-use Rattle.aa_model.specs.declared.policy.Policy.{Policy}
+use Rattle.std.specs.List.{list_any}
 use Rattle.aa_files.specs.Texts.{texts}
 use Rattle.aa_load.specs.UnitPolicy.{limit_of}
 use Rattle.aa_command.specs.declared.decided.Decided.{Decided}
@@ -16,12 +14,9 @@ use Rattle.aa_skipped.specs.Policies.{IsPrintedOf}
 use Rattle.aa_undecided.specs.Answers.{placed, may_hold_one, holders}
 use Rattle.aa_who.specs.declared.command.WhoOptions.{WhoOptions}
 use Rattle.aa_who.specs.Answers.{Answered, AreAnswers, IsFirstUnanswered}
-use Rattle.aa_who.specs.Shown.{is_nobodys, answer_text, untold_text, passed_text}
+use Rattle.aa_who.specs.Shown.{is_nobodys, answer_text, untold_text}
 use Rattle.aa_who.specs.Json.{json_answers}
-
--- how many rules of the policy decide nothing
-abbrev pub passed_in : List Policy → ℕ
-passed_in policies = option_map_or (λ (p : Policy). length p.passed_over) (slice_get policies 0) 0
+use Rattle.aa_command.specs.Counts.{passed_text, passed_in}
 
 -- the answers beside these skipped files, how many rules decide nothing, and how many files are skipped
 abbrev pub told_text : ℕ → List Skipped → List Answered → List ℕ

@@ -1,9 +1,6 @@
 -- The profiles that are granted what a word asks.
 -- Source: own.
-use Rattle.std.specs.Prelude.{◌≡◌, ℕ, zero, suc, List, [], ◌∷◌, ◌++◌, length, map, Bool, not, Option, Some, None, option_map, if◌then◌else◌}
-use Rattle.std.specs.List.{slice_get}
-use Rattle.std.specs.Option.{option_map_or}
-use Rattle.aa_model.specs.declared.policy.Policy.{Policy}
+use Rattle.std.specs.Prelude.{◌≡◌, ℕ, zero, suc, List, [], ◌∷◌, ◌++◌, map, Bool, not, Option, Some, None, option_map, if◌then◌else◌}
 use Rattle.aa_model.specs.declared.policy.Profile.{Profile}
 use Rattle.aa_model.specs.declared.label.Label.TheVariants.{Confined}
 use Rattle.aa_model.specs.declared.request.Request.{Request}
@@ -78,10 +75,6 @@ abbrev pub with_count : Bool → Decided → ℕ → Profile → AllGranted → 
 with_count unclean d n p gs (of.Told q) = with_quantity unclean d n p gs q
 with_count unclean d n p gs (of.Untold line) =
     record { list = gs.list; apart = gs.apart; untold = gs.untold ++ untold_at d.policies.now (Confined 0 n) line.items ∷ [] }
-
--- how many profiles there are
-abbrev pub count_of : List Policy → ℕ
-count_of policies = option_map_or (λ (p : Policy). length p.profiles) (slice_get policies 0) 0
 
 -- by how many of the word's requests its rules allow, what is told of profile n is added, if it is there
 abbrev pub AddsOf : Decided → ℕ → Bool → Word → List ℕ → ℕ → Option Profile → AllGranted → AllGranted → Type 0

@@ -86,7 +86,3 @@ untold_text a = untold_lines a.untold ++ a.free_untold
 -- the lines of an answer, where these skipped files may hold profiles; those on unclean paths alone stand behind the others
 unfoldable pub answer_text : List PlacedFile → Answered → List ℕ
 answer_text holders a = flat_map (grant_text a.word) a.grants ++ nobody_text holders a ++ count_line a ++ flat_map (apart_text a.word) a.apart
-
--- how many rules decide nothing, where there are some
-abbrev pub passed_text : ℕ → List ℕ
-passed_text n = if n == 0 then [] else decimal n ++ codes " rules passed over\n"

@@ -10,9 +10,9 @@ ghost use Rattle.aa_who.specs.Answers.{answered, IsAnswerTo, IsAnswerBy, AreAnsw
 
 use crate::counting::{Counted, count_at};
 use crate::fault::{Misread, WhoFault};
-use crate::granting::{Grants, count_of, grants_of};
+use crate::granting::{Grants, grants_of};
 use crate::reading::{read_asked, said_of};
-use aa_command::Decided;
+use aa_command::{Decided, count_of};
 use aa_model::Label;
 use aa_quantifiers::Word;
 use aa_text::{push_text, push_visible};

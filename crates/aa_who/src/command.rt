@@ -4,19 +4,21 @@ ghost use Rattle.std.specs.Prelude.{◌≡◌, ◌++◌, [], map, OnOk, IfOk, if
 ghost use Rattle.std.specs.List.{list_any};
 ghost use Rattle.aa_files.specs.Texts.{texts};
 ghost use Rattle.aa_command.specs.Setting.{setting_of};
-ghost use Rattle.aa_command.specs.Printed.{printed, faults_alone};
+ghost use Rattle.aa_command.specs.Printed.{printed};
 ghost use Rattle.aa_undecided.specs.Answers.{placed};
 ghost use Rattle.aa_who.specs.Answers.{answered};
 ghost use Rattle.aa_who.specs.Shown.{is_nobodys};
 ghost use Rattle.aa_who.specs.Json.{json_answers};
-ghost use Rattle.aa_who.specs.Command.{passed_in, told_text, answers_text, status_of, who_printed, IsWhoOf, IsWhoBy, IsWhoOutput};
+ghost use Rattle.aa_who.specs.Command.{told_text, answers_text, status_of, who_printed, IsWhoOf, IsWhoBy, IsWhoOutput};
+ghost use Rattle.aa_command.specs.Counts.{passed_in};
 
 use crate::answering::{WordAnswer, answers_to};
 use crate::fault::WhoFault;
 use crate::json::push_json_answers;
-use crate::shown::{is_nobodys, push_answers, push_passed, push_untold};
-use aa_command::{Decided, Output, Settings, Use, refused, with_policy};
-use aa_compile::Compiled;
+use crate::shown::{is_nobodys, push_answers, push_untold};
+use aa_command::{
+    Decided, Output, Settings, Use, passed_in, push_passed, refused, unanswered, with_policy,
+};
 use aa_files::Tree;
 use aa_skipped::{Skipped, UsePart, push_skipped_count, with_read_policy};
 use aa_text::NoMemory;
@@ -39,16 +41,6 @@ pub struct WhoOptions<'a> {
     pub skips: bool,
     /// Whether unclean paths count as others.
     pub unclean: bool,
-}
-
-/// How many rules of the policy decide nothing.
-pub fn passed_in(policies: &[Compiled]) -> usize
-    ensures { result ≡ passed_in policies.now }
-{
-    match policies.get(0) {
-        Some(compiled) => compiled.policy().passed_over.as_slice().len(),
-        None => 0,
-    }
 }
 
 /// Appends the answers, how many rules decide nothing, and how many files are skipped.
@@ -149,16 +141,6 @@ fn output_of(
     let untold = output.faults.as_slice();
     output.status = status_of(untold, one_may_hold(skipped), has_nobodys(answers));
     Ok(output)
-}
-
-/// Says a line in place of the answers.
-fn unanswered(alloc: Global, line: Vec<u8>) -> Output
-    ensures { printed result ≡ faults_alone line.items 1 }
-{
-    let mut output = Output::new(alloc);
-    output.faults = line;
-    output.status = 1;
-    output
 }
 
 /// Answers words by the policy of files.

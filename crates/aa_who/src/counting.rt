@@ -67,7 +67,7 @@ fn limit_of(states: u32) -> usize
 }
 
 /// Appends how a label is called.
-fn push_asker(
+pub fn push_asker(
     out: &mut Vec<u8>,
     alloc: Global,
     policies: &[Compiled],

@@ -7,16 +7,17 @@ ghost use Rattle.aa_ask.specs.Told.{verdict_on, told};
 ghost use Rattle.aa_load.specs.UnitPolicy.{limit_of};
 ghost use Rattle.aa_who.specs.Counts.{SaysNoPath};
 ghost use Rattle.aa_unclean_paths.specs.Requests.{does_request_count};
-ghost use Rattle.aa_who.specs.Grants.{granted, granted_by, all_granted, word_if, with_granted, with_quantity, with_count, count_of, AddsGrants, AreGrants};
+ghost use Rattle.aa_who.specs.Grants.{granted, granted_by, all_granted, word_if, with_granted, with_quantity, with_count, AddsGrants, AreGrants};
+ghost use Rattle.aa_command.specs.Counts.{count_of};
 
 use crate::counting::{Counted, count_at};
 use crate::fault::WhoFault;
 use crate::telling::{Untold, push_untold};
 use aa_ask::{Verdict, decide};
-use aa_command::Decided;
-use aa_compile::{Compiled, profile_of};
+use aa_command::{Decided, count_of};
+use aa_compile::profile_of;
 use aa_model::{Label, Profile, Request};
-use aa_notation::push_word;
+use aa_notation::word_of;
 use aa_quantifiers::{Quantity, Word};
 use aa_unclean_paths::does_request_count;
 use std::alloc::{AllocError, Global};
@@ -44,15 +45,6 @@ pub(crate) struct Grants {
     pub(crate) apart: Vec<Grant>,
     /// Those of which it can't be told.
     pub(crate) untold: Vec<Untold>,
-}
-
-/// A request as a word.
-fn word_of(alloc: Global, request: &Request) -> Result<Vec<u8>, AllocError>
-    ensures { IfOk result (λ word. word.items ≡ word_text request.now) }
-{
-    let mut word = Vec::new(alloc);
-    push_word(&mut word, request)?;
-    Ok(word)
 }
 
 /// The word of a request, if there is one.
@@ -199,16 +191,6 @@ fn push_grant_at(
     let counted = count_at(alloc, decided.policies, states, label, word, text)?;
     push_count(grants, alloc, decided, unclean, number, profile, &counted)?;
     Ok(())
-}
-
-/// How many profiles there are.
-pub fn count_of(policies: &[Compiled]) -> u16
-    ensures { result ≡ count_of policies.now }
-{
-    match policies.get(0) {
-        Some(compiled) => compiled.policy().profiles.as_slice().len() as u16,
-        None => 0,
-    }
 }
 
 /// What is told of each profile, in order: by how many of the requests of a word its rules allow.

@@ -5,7 +5,7 @@
 //! them are granted, some or none, and the rules are those of the verdict on the first that is. Complain mode grants
 //! nothing here (the law `who_asks_as_enforced`). The meaning lies in the definitions `IsRead`, `IsCounted` and
 //! `AreAnswers`. Counting requests is left to `aa_quantifiers`, the verdict to `aa_ask`, the policy of files to
-//! `aa_command` and `aa_skipped`. `first_at`, `asker_of` and `push_untold` are there for `aa_assert`.
+//! `aa_command` and `aa_skipped`. `first_at`, `push_asker` and `push_untold` are there for `aa_assert`.
 //!
 //! Shown by tests/policy_files/who_may_read_and_write.
 #![tactic(auto)]
@@ -21,11 +21,10 @@ mod reading;
 mod shown;
 mod telling;
 
-pub use command::{WhoOptions, passed_in, who_files};
-pub use counting::{Sought, first_at};
+pub use command::{WhoOptions, who_files};
+pub use counting::{Sought, first_at, push_asker};
 pub use fault::{Misread, WhoFault};
-pub use granting::count_of;
 pub use laws::who_asks_as_enforced;
 pub use reading::read_asked;
-pub use shown::{push_complains, push_passed};
-pub use telling::{Untold, asker_of, push_untold, push_untold_lines, push_untold_member};
+pub use shown::push_complains;
+pub use telling::{Untold, push_untold, push_untold_lines, push_untold_member};

@@ -7,7 +7,7 @@ ghost use Rattle.aa_ask.specs.Told.{told};
 ghost use Rattle.aa_undecided.specs.Answers.{placed_all};
 ghost use Rattle.aa_who.specs.Grants.{granted};
 ghost use Rattle.aa_who.specs.Answers.{answered};
-ghost use Rattle.aa_who.specs.Shown.{quantity_mark, examples_mark, apart_mark, complains_mark, who_text, shown_by, grant_text, only_mark, apart_who, apart_front, apart_text, is_nobodys, none_text, nobody_text, free_mark, count_line, answer_text, untold_text, passed_text};
+ghost use Rattle.aa_who.specs.Shown.{quantity_mark, examples_mark, apart_mark, complains_mark, who_text, shown_by, grant_text, only_mark, apart_who, apart_front, apart_text, is_nobodys, none_text, nobody_text, free_mark, count_line, answer_text, untold_text};
 
 use crate::answering::WordAnswer;
 use crate::counting::Counted;
@@ -317,15 +317,4 @@ pub(crate) fn push_answers(
         push_answer(out, alloc, holders, answer)?;
     }
     Ok(())
-}
-
-/// Appends how many rules decide nothing, where there are some.
-pub fn push_passed(out: &mut Vec<u8>, count: usize) -> Result<(), AllocError>
-    ensures { OnOk result (out.new.items ≡ out.old.items ++ passed_text count) }
-{
-    if count == 0 {
-        return Ok(());
-    }
-    push_number(out, count)?;
-    push_text(out, " rules passed over\n")
 }

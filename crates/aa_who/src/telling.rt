@@ -1,11 +1,12 @@
 //! Of whom it can't be told.
 
-ghost use Rattle.std.specs.Prelude.{◌≡◌, ◌++◌, ◌∷◌, [], codes, map, option_map, OnOk, IfOk};
+ghost use Rattle.std.specs.Prelude.{◌≡◌, ◌++◌, ◌∷◌, [], codes, map, OnOk, IfOk};
 ghost use Rattle.aa_ask.specs.Told.{asker_of};
 ghost use Rattle.aa_text.specs.Jsons.{member_text, list_text};
 ghost use Rattle.aa_who.specs.Untold.{untold, untold_at, json_untold, untold_lines};
 
-use aa_compile::{Compiled, name_of_label};
+use aa_ask::asker_of;
+use aa_compile::Compiled;
 use aa_model::Label;
 use aa_text::{ToJson, push_list_member, push_text};
 use std::alloc::{AllocError, Global};
@@ -17,20 +18,6 @@ pub struct Untold {
     pub asker: Option<Vec<u8>>,
     /// The line on why.
     pub line: Vec<u8>,
-}
-
-/// The full name of a label's profile, if the task is confined.
-pub fn asker_of(
-    alloc: Global,
-    policies: &[Compiled],
-    label: Label,
-) -> Result<Option<Vec<u8>>, AllocError>
-    ensures { IfOk result (λ name. option_map (λ n. n.items) name ≡ asker_of policies.now label) }
-{
-    match label {
-        Label::Unconfined(_) => Ok(None),
-        Label::Confined(_, _) => Ok(Some(Vec::from_slice(alloc, name_of_label(policies, label))?)),
-    }
 }
 
 fn untold_at(

@@ -1,8 +1,9 @@
 use Rattle.std.proofs.Common.{ℕ, subst, IfOk}
 use Rattle.aa_files.specs.Texts.{texts}
 use Rattle.aa_lint.specs.declared.gathering.Lint.{Lint}
-use Rattle.aa_lint.specs.Lint.{AreTold, count_of, lint_data}
+use Rattle.aa_lint.specs.Lint.{AreTold, lint_data}
 use Rattle.aa_lint.proofs.gathering.lint_all.Goals as goal
+use Rattle.aa_command.specs.Counts.{count_of}
 
 pub returns : goal.returns
 returns c =

@@ -1,12 +1,12 @@
 use Rattle.std.proofs.Common.{◌≡◌, ◌+◌, List, true, sym, ap, ◌∙◌, subst}
 use Rattle.aa_skipping.specs.declared.unread.Unread.{Unread}
-use Rattle.aa_ask.specs.Naming.{count_of}
 use Rattle.aa_undecided.specs.Holding.{unreads}
 use Rattle.aa_reachability.specs.Beside.{is_sure, AreOpenings}
 use Rattle.aa_reachability.specs.Course.{unreads_of}
 use Rattle.aa_reach.specs.Doubts.{IsShut, AreOpened}
 use Rattle.aa_reach.proofs.Shutting.{shut_sure, told_rightly}
 use Rattle.aa_reach.proofs.command.wanted_beside.Goals as goal
+use Rattle.aa_command.specs.Counts.{count_of}
 
 pub wanted-requires-clause-beside : goal.wanted-requires-clause-beside
 wanted-requires-clause-beside c =

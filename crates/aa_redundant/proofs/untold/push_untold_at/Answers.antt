@@ -3,7 +3,8 @@ use Rattle.std.specs.List.{slice_get}
 use Rattle.std.proofs.lemmas.List.{append-nil, map-append}
 use Rattle.std.proofs.lemmas.Option.{slice_get_read, slice_get_past}
 use Rattle.aa_model.specs.declared.policy.Profile.{Profile}
-use Rattle.aa_redundant.specs.Untold.{Untelling, untelling, untold_if, untold_of}
+use Rattle.aa_command.specs.Untold.{Untelling, untelling}
+use Rattle.aa_redundant.specs.Untold.{untold_if, untold_of}
 use Rattle.aa_redundant.proofs.untold.push_untold_at.Goals as goal
 
 pub returns-in_ok-push-in-Some : goal.returns-in_ok-push-in-Some

@@ -4,7 +4,6 @@ use Rattle.aa_load.specs.UnitPolicy.{limit_of}
 use Rattle.aa_command.specs.declared.output.Output.{Output}
 use Rattle.aa_command.specs.Printed.{printed}
 use Rattle.aa_command.specs.Refusals.{SaysFault}
-use Rattle.aa_who.specs.Command.{passed_in}
 use Rattle.aa_claims.specs.Reports.{IsClaimReport}
 use Rattle.aa_assert.specs.declared.part.Part.{Part}
 use Rattle.aa_assert.specs.declared.answering.Answer.{Answer}
@@ -12,6 +11,7 @@ use Rattle.aa_assert.specs.Answers.{answered, IsFirstUnanswered}
 use Rattle.aa_assert.specs.Command.{assert_printed, IsAssertOf, Answers, Unanswered}
 use Rattle.aa_assert.proofs.Saying.{said_at}
 use Rattle.aa_assert.proofs.command.AssertingUsePart.use_part.Goals as goal
+use Rattle.aa_command.specs.Counts.{passed_in}
 
 pub returns-in_ok-output_of-in-Ok : goal.returns-in_ok-output_of-in-Ok
 returns-in_ok-output_of-in-Ok c =

@@ -2,9 +2,10 @@ use Rattle.std.proofs.Common.{ℕ, List, map, Err, ap, ◌∙◌}
 use Rattle.aa_command.specs.Printed.{printed}
 use Rattle.aa_who.specs.declared.answering.WordAnswer.{WordAnswer}
 use Rattle.aa_who.specs.Answers.{answered}
-use Rattle.aa_who.specs.Command.{passed_in, who_printed, Answers}
+use Rattle.aa_who.specs.Command.{who_printed, Answers}
 use Rattle.aa_who.proofs.Printing.{unanswered_by}
 use Rattle.aa_who.proofs.command.AskingUsePart.use_part.Goals as goal
+use Rattle.aa_command.specs.Counts.{passed_in}
 
 pub returns-in_ok-output_of-in-Ok : goal.returns-in_ok-output_of-in-Ok
 returns-in_ok-output_of-in-Ok c =

@@ -1,6 +1,0 @@
-use Rattle.std.proofs.Common.{◌≡◌, map, take}
-use Rattle.aa_ask.specs.Naming.{name_item}
-use Rattle.aa_ask.proofs.naming.items_of.Given as goal
-
-abbrev pub invariant-loop-byte : goal.invariant-loop-byte
-invariant-loop-byte l = l.items.items ≡ map name_item (take l.byte-index l.text)

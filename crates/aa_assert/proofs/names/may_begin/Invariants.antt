@@ -1,9 +1,0 @@
-use Rattle.std.proofs.Common.{◌≡◌, length}
-use Rattle.aa_assert.specs.Names.{may_begin}
-use Rattle.aa_assert.proofs.names.may_begin.Given as goal
-
-abbrev pub invariant-loop-behind : goal.invariant-loop-behind
-invariant-loop-behind l = may_begin l.behind l.rest ≡ may_begin l.front l.text
-
-abbrev pub decreases-loop-behind : goal.decreases-loop-behind
-decreases-loop-behind l = length l.behind
